@@ -1,0 +1,12 @@
+-- Laws that belong to no one function. `Laws` is what the crates above may cite.
+mod Division
+mod Shape
+mod Search
+mod Left
+mod Members
+mod Fill
+mod Limits
+mod Checks
+mod Verdicts
+pub mod Laws
+pub mod Facts

@@ -1,0 +1,35 @@
+-- A row's part in its class: it is counted, and it is at most the largest and the sum.
+use Prim.Native.Nat.{ℕ, zero, suc, _+_, _≤_, _<_, max}
+use mathlib.Core.Bool.{Bool, true, false, cond}
+use mathlib.Core.List.{List, [], _∷_}
+use mathlib.Core.Path.{_≡_, refl}
+use native.Mathlib.Nat.{le-trans, le-add-left, le-max-right, le-of-suc-le-suc}
+use native.Mathlib.Omega.{arith}
+use lib.ListN.{length, getD}
+use Rattle.planner.specs.declared.Class.{Class}
+use Rattle.planner.specs.declared.Class.the-variants.{A, B}
+use Rattle.planner.specs.declared.Row.{Row}
+use Rattle.planner.specs.Rows.{sameClass, inClass, part, sumOver, maxOver}
+
+pub same-self : (c : Class) → sameClass c c ≡ true
+same-self A = refl
+same-self B = refl
+
+pub same-is : (c d : Class) → sameClass c d ≡ true → c ≡ d
+same-is A A e = refl
+same-is A B e = cc
+same-is B A e = cc
+same-is B B e = refl
+
+module _ (c : Class) (f : Row → ℕ) where
+  pub sum-at : (rs : List Row) (k : ℕ) (d : Row) → k < length rs → inClass c (getD rs k d) ≡ true → f (getD rs k d) ≤ sumOver c f rs
+  unfolding sumOver
+  sum-at [] k d h e = absurd (omega arith)
+  sum-at (r ∷ rs) zero d h e = rw e (omega arith)
+  sum-at (r ∷ rs) (suc k) d h e = le-trans (sum-at rs k d (le-of-suc-le-suc h) e) (le-add-left _ _)
+
+  pub max-at : (rs : List Row) (k : ℕ) (d : Row) → k < length rs → inClass c (getD rs k d) ≡ true → f (getD rs k d) ≤ maxOver c f rs
+  unfolding maxOver
+  max-at [] k d h e = absurd (omega arith)
+  max-at (r ∷ rs) zero d h e = rw e (omega arith)
+  max-at (r ∷ rs) (suc k) d h e = le-trans (max-at rs k d (le-of-suc-le-suc h) e) (le-max-right _ _)

@@ -1,0 +1,89 @@
+-- `planner::acceptance::row_bounds` meets its contract: after i rows the first i places hold their bounds and the others 0.
+use Prim.Native.Nat.{ℕ, _+_, _-_, _≤_, _<_}
+use mathlib.Core.Path.{_≡_, refl, sym, _∙_, ap}
+use native.Mathlib.Omega.{arith}
+use borrow.Author.Needs.{needs}
+use lib.ListN.{length, getD, set}
+use Rattle.planner.specs.Rows.{noRow, rowsOf}
+use Rattle.planner.specs.Bound.{bound, bounds}
+use Rattle.planner.proofs.Shape.{places, rows-length}
+use Rattle.planner.proofs.Fill.{filled, fill-next, fill-end}
+use Rattle.planner.proofs.Limits.{row-at, bound-ready, bound-worked}
+use Rattle.planner.proofs.acceptance.row_bounds.Statement.{statement}
+use Rattle.planner.proofs.acceptance.row_bounds.Tie as tie
+
+abbrev Inv-loop : tie.InvT-loop
+Inv-loop a b t n out₀ i₀ out i = (n ≡ t .count) × (i ≤ t .count) × (t .count ≤ 32) × (out ≡ filled (bound t) (rowsOf t) i)
+
+abbrev μ-loop : tie.MeasureT-loop
+μ-loop a b t n out₀ i₀ out i = n - i
+
+loop-holds : tie.Need-loop-holds Inv-loop μ-loop
+loop-holds c = (refl, omega arith, c .pre .few, refl)
+
+mul-row : tie.Need-mul-row Inv-loop μ-loop
+mul-row c = omega arith
+
+element-copy-out-row : tie.Need-element-copy-out-row Inv-loop μ-loop
+element-copy-out-row c = omega arith
+
+lane-requires : tie.Need-lane-requires Inv-loop μ-loop
+lane-requires c κs = search needs
+
+size-requires : tie.Need-size-requires Inv-loop μ-loop
+size-requires c κs = search needs
+
+row-bound-requires : tie.Need-row-bound-requires Inv-loop μ-loop
+row-bound-requires c κs =
+    let s = c .before .before .before .before .before in
+    let t = s .args .t1 in
+    bound-ready t (places t _ (s .good .0)) (s .pre .few) (c .before .before .before .before .loop .i) (c .before .before .before .loop-test .taken) (s .pre) (c .before .lane .ensures) (c .size .ensures .0)
+
+mul-out : tie.Need-mul-out Inv-loop μ-loop
+mul-out c = omega arith
+
+array-write-out : tie.Need-array-write-out Inv-loop μ-loop
+array-write-out c = omega arith
+
+add-i : tie.Need-add-i Inv-loop μ-loop
+add-i c = omega arith
+
+loop-less : tie.Need-loop-less Inv-loop μ-loop
+loop-less c = omega arith
+
+loop-again : tie.Need-loop-again Inv-loop μ-loop
+loop-again c =
+    let s = c .before .before .before .before .before .before in
+    let l = c .before .before .before .before .before .loop in
+    let t = s .args .t1 in
+    let long = places t _ (s .good .0) in
+    let in-use : l .i < t .count = c .before .before .before .before .loop-test .taken in
+    let v : c .row-bound .result ≡ bound t (getD (rowsOf t) (l .i) noRow) =
+    c .row-bound .ensures ∙ bound-worked t long (s .pre .few) (l .i) in-use (s .pre) (c .before .before .lane .ensures) (c .before .size .ensures .0) ∙ ap (bound t) (sym (row-at t long (s .pre .few) (l .i) in-use)) in
+    (refl, omega arith, s .pre .few, rw (l .inv .3) (fill-next (bound t) (rowsOf t) (l .i) noRow (rw (rows-length t long (s .pre .few)) in-use) (omega arith) v))
+
+returns : tie.Need-returns Inv-loop μ-loop
+unfolding bounds
+returns c =
+    let s = c .before .before in
+    let t = s .args .t1 in
+    c .before .loop .inv .3 ∙ fill-end (bound t) (rowsOf t) (c .before .loop .i) (rw (rows-length t (places t _ (s .good .0)) (s .pre .few)) (omega arith))
+
+pub row-bounds-spec : {M : Type 1} → statement M
+row-bounds-spec =
+    tie.close
+    (tie.spec
+    Inv-loop
+    μ-loop
+    loop-holds
+    mul-row
+    element-copy-out-row
+    lane-requires
+    size-requires
+    row-bound-requires
+    mul-out
+    array-write-out
+    add-i
+    loop-less
+    loop-again
+    returns)

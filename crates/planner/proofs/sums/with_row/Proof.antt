@@ -1,0 +1,67 @@
+use Prim.Native.Nat.{ℕ, _+_, _≤_, max}
+use mathlib.Core.Bool.{true, false, not}
+use mathlib.Core.Path.{_≡_, refl, sym, _∙_}
+use borrow.Author.Tests.{not-true, not-false}
+use mathlib.Core.Logic.{⊎-elim}
+use native.Mathlib.Nat.{add-zero, max-zero}
+use native.Mathlib.Omega.{arith}
+use Rattle.planner.specs.declared.Class.{Class}
+use Rattle.planner.specs.declared.Row.{Row}
+use Rattle.planner.specs.declared.Figures.{Figures}
+use Rattle.planner.specs.Rows.{sameClass}
+use Rattle.planner.specs.Wire.{sizeOf, shareOf}
+use Rattle.planner.specs.Sums.{joined, Grown}
+use borrow.Author.Needs.{needs}
+use Rattle.planner.proofs.sums.with_row.Statement.{statement}
+use Rattle.planner.proofs.sums.with_row.Tie as tie
+
+other : (f : Figures) (k : Class) (r : Row) → sameClass k (r .class) ≡ false → f ≡ joined f k r
+other f k r e = rw e (simp (add-zero, max-zero))
+
+own : (f : Figures) (k : Class) (r : Row) (l s h : ℕ) → sameClass k (r .class) ≡ true → s ≡ sizeOf r → h ≡ shareOf r → l ≡ max (f .largest) s → record { members = f .members + 1; largest = l; total = f .total + s; shares = f .shares + h } ≡ joined f k r
+own f k r l s h e es eh el = rw (e, el, es, eh) refl
+
+same-class-requires : tie.Need-same-class-requires
+same-class-requires c κs = search needs
+
+returns : tie.Need-returns
+returns c =
+    let a = c .before .before .args in
+    (other (a .f) (a .class) (a .row) (sym (c .before .same-class .ensures) ∙ not-true _ (c .if1 .taken)), omega arith)
+
+size-requires : tie.Need-size-requires
+size-requires c κs = search needs
+
+add-t10 : tie.Need-add-t10
+add-t10 c = search needs
+
+add-t11 : tie.Need-add-t11
+add-t11 c = search needs
+
+share-requires : tie.Need-share-requires
+share-requires c κs = search needs
+
+add-t13 : tie.Need-add-t13
+add-t13 c = search needs
+
+returns-2 : tie.Need-returns-2
+returns-2 c =
+    let at-size = c .before .before .before .before .before .before in
+    let a = at-size .before .before .before .args in
+    let l : c .before .before .before .before .if2 .largest ≡ max (a .f .largest) (at-size .size .result) = ⊎-elim (λ w. omega arith) (λ w. omega arith) (c .before .before .before .before .if2 .came) in (
+      own (a .f) (a .class) (a .row) _ _ _ (sym (at-size .before .before .same-class .ensures) ∙ not-false _ (at-size .before .if1 .left)) (at-size .size .ensures .0) (c .before .share .ensures .0) l,
+      omega (arith, l),
+    )
+
+pub with-row-spec : {M : Type 1} → statement M
+with-row-spec =
+    tie.close
+    (tie.spec
+    same-class-requires
+    returns
+    size-requires
+    add-t10
+    add-t11
+    share-requires
+    add-t13
+    returns-2)

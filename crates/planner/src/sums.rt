@@ -1,0 +1,67 @@
+// The figures of a class: its rows taken together.
+ghost use mathlib.Core.Path.{_≡_};
+ghost use Prim.Native.Nat.{_≤_};
+ghost use Rattle.planner.specs.Rows.{sameClass, figuresOf};
+ghost use Rattle.planner.specs.Sums.{joined, Small, Grown};
+use crate::Class;
+use crate::Figures;
+use crate::Row;
+use crate::Table;
+use crate::wire::share;
+use crate::wire::size;
+
+pub fn same_class(a: Class, b: Class) -> bool
+    ensures { λ r. ⌜ r ≡ sameClass a b ⌝ }
+{
+    match a {
+        Class::A => match b {
+            Class::A => true,
+            Class::B => false,
+        },
+        Class::B => match b {
+            Class::A => false,
+            Class::B => true,
+        },
+    }
+}
+
+// The figures with one row more, if it is in the class.
+fn with_row(f: Figures, class: Class, row: Row) -> Figures
+    requires { ⌜ Small 31 f ⌝ }
+    ensures { λ r. ⌜ r ≡ joined f class row ⌝ }
+    ensures grown { λ r. ⌜ Grown f r ⌝ }
+{
+    let of = row.class;
+    if !same_class(class, of) {
+        return f;
+    }
+    let c = size(row);
+    let largest = if f.largest < c { c } else { f.largest };
+    Figures {
+        members: f.members + 1,
+        largest,
+        total: f.total + c,
+        shares: f.shares + share(row),
+    }
+}
+
+// A class's figures over the rows of a table.
+pub fn figures(t: Table, class: Class) -> Figures
+    requires { ⌜ t .count ≤ 32 ⌝ }
+    ensures { λ r. ⌜ r ≡ figuresOf class t ⌝ }
+    ensures small { λ r. ⌜ Small 32 r ⌝ }
+{
+    let n = t.count;
+    let mut f = Figures {
+        members: 0,
+        largest: 0,
+        total: 0,
+        shares: 0,
+    };
+    let mut i: usize = 0;
+    while i < n {
+        f = with_row(f, class, t.rows[i]);
+        i += 1;
+    }
+    f
+}
