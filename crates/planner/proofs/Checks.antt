@@ -6,13 +6,12 @@ use mathlib.Core.Path.{_≡_, refl}
 use native.Mathlib.Omega.{arith}
 use borrow.Author.Tests.{leb-true}
 use lib.Dec.{leb}
-use Rattle.planner.specs.declared.Class.{Class}
 use Rattle.planner.specs.declared.Class.the-variants.{A, B}
 use Rattle.planner.specs.declared.Row.{Row}
 use Rattle.planner.specs.declared.Table.{Table}
 use Rattle.planner.specs.declared.Found.{Found}
 use Rattle.planner.specs.declared.Found.the-variants.{At, Nothing}
-use Rattle.planner.specs.Rows.{rowsOf, idle}
+use Rattle.planner.specs.Rows.{rowsOf}
 use Rattle.planner.specs.Opening.{Outcome, accepted, refused, unless, unlessAt, first, firstFrom, Every, countOk, headerOk, rowOk, usedOk, slopesOk, sharesOk, timely, rangeChecks, ranged, openingChecks, opening}
 
 never : {n p : ℕ} {X : Type 0} → refused n p ≡ accepted → X

@@ -3,24 +3,28 @@ use Prim.Native.Nat.{ℕ, zero, suc, _+_, _-_, _*_, _/_, _≤_, _<_, max}
 use mathlib.Core.Bool.{Bool, true, false, cond, _&&_, false≢true}
 use mathlib.Core.List.{List, [], _∷_}
 use mathlib.Core.Logic.{_↔_, ⊎-elim}
-use mathlib.Core.Path.{_≡_, refl, sym, _∙_, ap}
-use native.Mathlib.Nat.{le-trans, le-refl, add-le-add, le-of-suc-le-suc, mul-add, add-mul, mul-comm, lt-of-mul-lt-mul-left, lt-of-le-of-lt, add-assoc, mul-div-le, lt-mul-div-succ, mul-le-mul-right, eq-zero-or-pos}
+use mathlib.Core.Path.{_≡_, refl}
+use native.Mathlib.Nat.{le-trans, le-refl, add-le-add, le-of-suc-le-suc, mul-add, add-mul, lt-of-mul-lt-mul-left, lt-of-le-of-lt, add-assoc, mul-div-le, lt-mul-div-succ, mul-le-mul, mul-le-mul-right, suc-mul, max-le, eq-zero-or-pos}
 use native.Mathlib.Omega.{arith}
 use lib.ListN.{length, getD, length-take}
-use lib.Dec.{leb, eqb}
+use lib.Dec.{leb}
 use borrow.Author.Tests.{leb-true, le-leb, eq-eqb, ne-eqb, eqb-true}
 use Rattle.planner.specs.declared.Class.{Class}
 use Rattle.planner.specs.declared.Class.the-variants.{A, B}
 use Rattle.planner.specs.declared.Row.{Row}
 use Rattle.planner.specs.declared.Table.{Table}
 use Rattle.planner.specs.declared.Found.the-variants.{Nothing}
-use Rattle.planner.specs.Wire.{D, wireSize, sizeFor, sizeOf, periodOf, shareOf}
-use Rattle.planner.specs.Rows.{noRow, rowsOf, rowAt, sameClass, inClass, part, sumOver, maxOver, members, largest, total, shares, idle, send, bestSize}
+use Rattle.planner.specs.Wire.{D, ceilDiv, wireSize, sizeFor, sizeOf, periodOf, shareOf}
+use Rattle.planner.specs.Rows.{noRow, rowsOf, rowAt, inClass, part, sumOver, maxOver, members, largest, total, shares, idle, send, bestSize}
 use Rattle.planner.specs.Bound.{blocking, boundIn, bound}
-use Rattle.planner.specs.Opening.{accepted, Every, InRange, IsAccepted, sameTest, countOk, headerOk, rowOk, usedOk, slopesOk, sharesOk, timely, firstFrom, ranged, opening}
-use Rattle.planner.proofs.Division.{ceil-covers}
-use Rattle.planner.proofs.Members.{same-self, sum-at, max-at}
-use Rattle.planner.proofs.Checks.{and-true, Passes, opening-passes, count-limits, header-limits, slope-limits}
+use Rattle.planner.specs.Opening.{accepted, Every, InRange, IsAccepted, countOk, headerOk, rowOk, usedOk, slopesOk, sharesOk, timely, firstFrom, ranged, opening}
+use Rattle.planner.proofs.Division.{ceil-covers, ceil-most}
+use Rattle.planner.proofs.Members.{sum-at, max-at}
+use Rattle.planner.proofs.Checks.{and-true, opening-passes, count-limits, header-limits, slope-limits}
+-- laws of other modules that the crates above may cite too: of classes, of a table's places, and of its list of bounds
+pub use Rattle.planner.proofs.Members.{same-self, same-is}
+pub use Rattle.planner.proofs.Shape.{places, rows-length}
+pub use Rattle.planner.proofs.Limits.{row-at, bounds-at}
 
 -- ---- what holds of every row holds of the row at a number
 pub every-at : (P : Row → Type 0) (rs : List Row) → Every P rs → (k : ℕ) → k < length rs → P (getD rs k noRow)
@@ -62,6 +66,31 @@ sum-grows c {f} {g} h (r ∷ rs) = add-le-add (go (inClass c r)) (sum-grows c h 
     go : (b : Bool) → cond b (f r) 0 ≤ cond b (g r) 0
     go true = h r
     go false = le-refl 0
+
+-- a sum is at least any part of it
+pub sum-part : (c : Class) (f : Row → ℕ) (keep : Row → Bool) (rs : List Row) → sumOver c (λ r. cond (keep r) (f r) 0) rs ≤ sumOver c f rs
+sum-part c f keep rs = sum-grows c (λ r. go r (keep r)) rs
+  where
+    go : (r : Row) (b : Bool) → cond b (f r) 0 ≤ f r
+    go r true = le-refl (f r)
+    go r false = omega arith
+
+part-most : (c : Class) (f : Row → ℕ) (m : ℕ) (r : Row) → f r ≤ m → part c f r ≤ m
+part-most c f m r h = go (inClass c r)
+  where
+    go : (b : Bool) → cond b (f r) 0 ≤ m
+    go true = h
+    go false = omega arith
+
+max-most : (c : Class) (f : Row → ℕ) (m : ℕ) (rs : List Row) → Every (λ r. f r ≤ m) rs → maxOver c f rs ≤ m
+unfolding maxOver
+max-most c f m [] e = omega arith
+max-most c f m (r ∷ rs) e = max-le (part-most c f m r (e .0)) (max-most c f m rs (e .1))
+
+sum-most : (c : Class) (f : Row → ℕ) (m : ℕ) (rs : List Row) → Every (λ r. f r ≤ m) rs → sumOver c f rs ≤ length rs * m
+unfolding sumOver
+sum-most c f m [] e = omega arith
+sum-most c f m (r ∷ rs) e = rw (suc-mul (length rs) m) (omega (arith, part-most c f m r (e .0), sum-most c f m rs (e .1)))
 
 -- ---- an accepted table is one that opening accepts
 in-range : (r : Row) → rowOk r ≡ true → InRange r
@@ -169,6 +198,10 @@ module _ (t : Table) (ok : IsAccepted t) where
   unfolding rowsOf
   rows-most = rw (length-take (t .count) (t .rows)) (omega (arith, ok .most))
 
+  sizes : Every (λ r. sizeOf r ≤ 1542) (rowsOf t)
+  unfolding sizeOf sizeFor
+  sizes = every-map InRange (λ r. sizeOf r ≤ 1542) (λ r h. wire-most (r .payload) (h .payload)) (rowsOf t) (ok .ranges)
+
   pub best-least : 84 ≤ bestSize t
   unfolding bestSize
   best-least = wire-least (t .payload)
@@ -201,6 +234,15 @@ module _ (t : Table) (ok : IsAccepted t) where
     pub shares-within : shares c t ≤ idle c t
     shares-within = ok .fair c
 
+    -- L is at most the wire size of 1500 bytes, and the sum at most 32 times that
+    pub largest-most : largest c t ≤ 1542
+    unfolding largest
+    largest-most = max-most c sizeOf 1542 (rowsOf t) sizes
+
+    pub total-most : total c t ≤ 49344
+    unfolding total
+    total-most = le-trans (sum-most c sizeOf 1542 (rowsOf t) sizes) (mul-le-mul-right 1542 rows-most)
+
   -- HA is at least LC, and at least LB
   pub blocking-a : (bestSize t ≤ blocking A t) × (largest B t ≤ blocking A t)
   unfolding blocking
@@ -213,6 +255,16 @@ module _ (t : Table) (ok : IsAccepted t) where
       let s = send-least A in
       let n = max (D * bestSize t) (idle A t * largest B t) in
       rw (add-mul (largest A t)) (omega (arith, ceil-covers n (send A t) (omega arith)))
+
+  -- HA is at most 1542, and HB at most that and D × 1542 / 250,000
+  pub blocking-most : (c : Class) → blocking c t ≤ 7710
+  unfolding blocking
+  blocking-most A = omega (arith, largest-most B, best-most)
+  blocking-most B =
+      let n = max (D * bestSize t) (idle A t * largest B t) in
+      let burst : idle A t * largest B t ≤ 1156500000 = mul-le-mul (idle-most A) (largest-most B) in
+      let q : ceilDiv n (send A t) ≤ 6168 = ceil-most n (send A t) 6168 (omega (arith, send-least A)) (omega (arith, send-least A, best-most)) in
+      omega (arith, largest-most A)
 
   module _ (k : ℕ) (in-use : k < length (rowsOf t)) where
     own : inClass (classAt t k) (rowAt t k) ≡ true
@@ -262,18 +314,19 @@ module _ (t : Table) (ok : IsAccepted t) where
     pub bound-period : bound t (rowAt t k) ≤ periodOf (rowAt t k)
     bound-period = le-trans bound-deadline deadline-period
 
-    -- bound − C is H and the quotient
-    rest : bound t (rowAt t k) - sizeOf (rowAt t k) ≡ blocking (classAt t k) t + backlog t k / idle (classAt t k) t
+    -- bound is C, H and the quotient
+    pub bound-sum : bound t (rowAt t k) ≡ sizeOf (rowAt t k) + blocking (classAt t k) t + backlog t k / idle (classAt t k) t
     unfolding bound boundIn
-    rest = omega arith
+    bound-sum = refl
+
+    rest : bound t (rowAt t k) - sizeOf (rowAt t k) ≡ blocking (classAt t k) t + backlog t k / idle (classAt t k) t
+    rest = omega (arith, bound-sum)
 
     pub bound-size : sizeOf (rowAt t k) ≤ bound t (rowAt t k)
-    unfolding bound boundIn
-    bound-size = omega arith
+    bound-size = omega (arith, bound-sum)
 
     pub bound-blocking : blocking (classAt t k) t < bound t (rowAt t k)
-    unfolding bound boundIn
-    bound-blocking = omega (arith, size-least)
+    bound-blocking = omega (arith, bound-sum, size-least)
 
     -- I × (bound − C) ≤ I × H + D × (sum − C) + S × L < I × (bound − C + 1)
     pub bound-low : idle (classAt t k) t * (bound t (rowAt t k) - sizeOf (rowAt t k)) ≤ idle (classAt t k) t * blocking (classAt t k) t + backlog t k

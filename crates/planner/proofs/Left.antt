@@ -1,6 +1,6 @@
 -- A class's figures, row by row: what the loop has, joined with what is left, is the whole.
-use Prim.Native.Nat.{ℕ, suc, _+_, _*_, _≤_, _<_, max}
-use mathlib.Core.Path.{_≡_, refl, _∙_, sym, ap}
+use Prim.Native.Nat.{ℕ, _+_, _≤_, _<_, max}
+use mathlib.Core.Path.{_≡_, _∙_}
 use native.Mathlib.Numerals.{add-one}
 use native.Mathlib.Nat.{add-zero, zero-add, max-zero, zero-max, add-assoc}
 use native.Mathlib.Omega.{arith}
@@ -10,8 +10,8 @@ use Rattle.planner.specs.declared.Row.{Row}
 use Rattle.planner.specs.declared.Table.{Table}
 use Rattle.planner.specs.declared.Figures.{Figures}
 use Rattle.planner.specs.Wire.{sizeOf, shareOf}
-use Rattle.planner.specs.Rows.{rowsOf, noRow, part, sumOver, maxOver, members, largest, total, shares, figuresOf}
-use Rattle.planner.specs.Sums.{joined}
+use Rattle.planner.specs.Rows.{rowsOf, noRow, part, sumOver, maxOver, members, largest, total, shares}
+use Rattle.planner.specs.Steps.{figuresOf, joined}
 use Rattle.planner.proofs.Shape.{next-row, no-row}
 
 pub record Remaining (c : Class) (t : Table) (i : ℕ) (f : Figures) : Type 0 where

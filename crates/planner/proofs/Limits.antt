@@ -1,9 +1,9 @@
 -- Bounds as the code works them out: from a row's wire size and its class.
 use Prim.Native.Nat.{ℕ, _-_, _≤_, _<_}
 use mathlib.Core.List.{map}
-use mathlib.Core.Bool.{Bool, true, false}
+use mathlib.Core.Bool.{true}
 use mathlib.Core.Logic.{⊎-elim}
-use mathlib.Core.Path.{_≡_, refl, sym, _∙_, ap, subst}
+use mathlib.Core.Path.{_≡_, refl, _∙_, ap}
 use native.Mathlib.Nat.{eq-zero-or-pos}
 use native.Mathlib.Omega.{arith}
 use lib.Dec.{eqb}
@@ -12,14 +12,14 @@ use lib.Seq.{getD-take}
 use borrow.Author.Tests.{eq-eqb, eqb-true}
 use Rattle.planner.specs.declared.Class.{Class}
 use Rattle.planner.specs.declared.Class.the-variants.{A, B}
-use Rattle.planner.specs.declared.Row.{Row}
 use Rattle.planner.specs.declared.Table.{Table}
 use Rattle.planner.specs.declared.Lane.{Lane}
 use Rattle.planner.specs.Wire.{sizeOf}
-use Rattle.planner.specs.Rows.{noRow, rowsOf, sameClass, inClass, members, total, idle}
+use Rattle.planner.specs.Rows.{noRow, rowsOf, inClass, members, total, idle}
 use Rattle.planner.specs.Bound.{boundIn, bound, bounds}
-use Rattle.planner.specs.Opening.{sameTest, usedOk}
-use Rattle.planner.specs.Plan.{laneOf, pickLane, boundWith, Modest, Lanes}
+use Rattle.planner.specs.Opening.{usedOk}
+use Rattle.planner.specs.Plan.{laneOf}
+use Rattle.planner.specs.Steps.{pickLane, boundWith, Modest, Lanes}
 use Rattle.planner.proofs.Shape.{rows-length}
 use Rattle.planner.proofs.Members.{same-self, sum-at}
 use Rattle.planner.proofs.Fill.{getD-map-in}

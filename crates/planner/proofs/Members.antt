@@ -1,6 +1,6 @@
 -- A row's part in its class: it is counted, and it is at most the largest and the sum.
-use Prim.Native.Nat.{ℕ, zero, suc, _+_, _≤_, _<_, max}
-use mathlib.Core.Bool.{Bool, true, false, cond}
+use Prim.Native.Nat.{ℕ, zero, suc, _≤_, _<_}
+use mathlib.Core.Bool.{true}
 use mathlib.Core.List.{List, [], _∷_}
 use mathlib.Core.Path.{_≡_, refl}
 use native.Mathlib.Nat.{le-trans, le-add-left, le-max-right, le-of-suc-le-suc}
@@ -9,7 +9,7 @@ use lib.ListN.{length, getD}
 use Rattle.planner.specs.declared.Class.{Class}
 use Rattle.planner.specs.declared.Class.the-variants.{A, B}
 use Rattle.planner.specs.declared.Row.{Row}
-use Rattle.planner.specs.Rows.{sameClass, inClass, part, sumOver, maxOver}
+use Rattle.planner.specs.Rows.{sameClass, inClass, sumOver, maxOver}
 
 pub same-self : (c : Class) → sameClass c c ≡ true
 same-self A = refl

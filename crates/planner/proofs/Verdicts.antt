@@ -2,7 +2,7 @@
 use Prim.Native.Nat.{ℕ}
 use mathlib.Core.Bool.{true, false}
 use mathlib.Core.List.{List}
-use mathlib.Core.Path.{_≡_, refl, sym, _∙_}
+use mathlib.Core.Path.{_≡_, refl, sym}
 use Rattle.planner.specs.declared.Class.the-variants.{A, B}
 use Rattle.planner.specs.declared.Table.{Table}
 use Rattle.planner.specs.declared.Found.the-variants.{At, Nothing}
@@ -12,8 +12,9 @@ use Rattle.planner.specs.declared.Lane.{Lane}
 use Rattle.planner.specs.declared.Plan.{Plan}
 use Rattle.planner.specs.Rows.{rowsOf}
 use Rattle.planner.specs.Bound.{bounds}
-use Rattle.planner.specs.Opening.{Outcome, accepted, refused, numberOf, placeOf, firstFrom, slopesOk, sharesOk, timely, ranged, opening}
-use Rattle.planner.specs.Plan.{laneOf, refusedPlan, Passed, Planned}
+use Rattle.planner.specs.Opening.{accepted, refused, numberOf, placeOf, firstFrom, slopesOk, sharesOk, timely, ranged, opening}
+use Rattle.planner.specs.Plan.{laneOf, Planned}
+use Rattle.planner.specs.Steps.{refusedPlan, Passed}
 
 pub refused-right : (t : Table) (r : Refusal) {p : Plan} → opening t ≡ refused (numberOf r) (placeOf r) → p ≡ refusedPlan r → Planned t p
 refused-right t r e f = rw f (record { verdict = sym e; a = rw e refl; b = rw e refl; bounds = rw e refl })

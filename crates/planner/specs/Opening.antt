@@ -1,10 +1,10 @@
 -- When a table is accepted, and what opening it (or asking for its bounds) answers.
-use Prim.Native.Nat.{ℕ, zero, suc, _+_, _≤_}
+use Prim.Native.Nat.{ℕ, suc, _+_, _≤_}
 use mathlib.Core.Bool.{Bool, true, false, not, cond, _&&_}
 use mathlib.Core.List.{List, [], _∷_}
 use mathlib.Core.Logic.{_↔_}
 use mathlib.Core.Path.{_≡_}
-use lib.Dec.{leb, ltb, eqb}
+use lib.Dec.{leb, eqb}
 use Rattle.planner.specs.declared.Class.{Class}
 use Rattle.planner.specs.declared.Class.the-variants.{A, B}
 use Rattle.planner.specs.declared.Row.{Row}
@@ -48,22 +48,24 @@ abbrev pub outcomeOf : Verdict → Outcome
 outcomeOf Accepted = accepted
 outcomeOf (Refused r) = refused (numberOf r) (placeOf r)
 
--- Rules 3 and 5. The row count is 1 to 32; slopes are 0 to 750,000 each and the best-effort payload 0 to 1500.
+-- Rule 3. The row count is 1 to 32.
 unfoldable pub countOk : Table → Bool
 countOk t = leb 1 (t .count) && leb (t .count) 32
 
+-- Rule 5, the header. Slopes are 0 to 750,000 each and the best-effort payload 0 to 1500.
 unfoldable pub headerOk : Table → Bool
 headerOk t = (leb (t .idlea) 750000 && leb (t .idleb) 750000) && leb (t .payload) 1500
 
--- A row's payload is 0 to 1500, its period 84 to 1,000,000,000 byte-times, its deadline 1 to the period.
+-- Rule 5, a row. Its payload is 0 to 1500, its period 84 to 1,000,000,000 byte-times, its deadline 1 to the period.
 unfoldable pub rowOk : Row → Bool
 rowOk r = (leb (r .payload) 1500 && (leb 84 (periodOf r) && leb (periodOf r) 1000000000)) && (leb 1 (r .deadline) && leb (r .deadline) (periodOf r))
 
--- Rule 8. A class's I is 0 exactly if it has no row, and IA + IB ≤ 750,000.
+-- Two tests agree.
 abbrev pub sameTest : Bool → Bool → Bool
 sameTest true b = b
 sameTest false b = not b
 
+-- Rule 8. A class's I is 0 exactly if it has no row, and IA + IB ≤ 750,000.
 unfoldable pub usedOk : Class → Table → Bool
 usedOk c t = sameTest (eqb (idle c t) 0) (eqb (members c t) 0)
 

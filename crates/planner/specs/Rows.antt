@@ -7,7 +7,6 @@ use Rattle.planner.specs.declared.Class.{Class}
 use Rattle.planner.specs.declared.Class.the-variants.{A, B}
 use Rattle.planner.specs.declared.Row.{Row}
 use Rattle.planner.specs.declared.Table.{Table}
-use Rattle.planner.specs.declared.Figures.{Figures}
 use Rattle.planner.specs.Wire.{D, wireSize, sizeOf, shareOf}
 
 -- A row of zeros: what an unused place holds after reading.
@@ -75,7 +74,3 @@ send c t = D - idle c t
 -- LC: the best-effort wire size.
 unfoldable pub bestSize : Table → ℕ
 bestSize t = wireSize (t .payload)
-
--- A class's figures, in one record.
-abbrev pub figuresOf : Class → Table → Figures
-figuresOf c t = record { members = members c t; largest = largest c t; total = total c t; shares = shares c t }

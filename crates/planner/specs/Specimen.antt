@@ -1,9 +1,8 @@
 -- Document 01's specimen port, as a table.
 use Prim.Native.Nat.{ℕ}
-use mathlib.Core.List.{List, [], _∷_, map}
+use mathlib.Core.List.{[], _∷_, map}
 use lib.ListN.{replicate}
 use Rattle.planner.specs.declared.Class.the-variants.{A, B}
-use Rattle.planner.specs.declared.Row.{Row}
 use Rattle.planner.specs.declared.Table.{Table}
 use mathlib.Core.Path.{_≡_}
 use Rattle.planner.specs.Wire.{wireSize, shareOf}

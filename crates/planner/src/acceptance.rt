@@ -6,7 +6,8 @@ ghost use Rattle.planner.specs.declared.Class.{Class};
 ghost use Rattle.planner.specs.Rows.{rowsOf};
 ghost use Rattle.planner.specs.Bound.{bounds};
 ghost use Rattle.planner.specs.Opening.{sameTest, slopesOk, timely, firstFrom};
-ghost use Rattle.planner.specs.Plan.{laneOf, pickLane, boundWith, refusedPlan, Summed, Passed, Modest, Lanes, Planned};
+ghost use Rattle.planner.specs.Plan.{laneOf, Planned};
+ghost use Rattle.planner.specs.Steps.{pickLane, boundWith, refusedPlan, Summed, Passed, Modest, Lanes};
 use crate::Class;
 use crate::Figures;
 use crate::Found;
@@ -127,9 +128,9 @@ fn first_late(t: Table, limits: [u64; 32]) -> Found
     let n = t.count;
     let mut i: usize = 0;
     while i < n {
-        let late = t.rows[i];
+        let this = t.rows[i];
         let limit = limits[i];
-        if (late.deadline as u64) < limit {
+        if (this.deadline as u64) < limit {
             return Found::At(i);
         }
         i += 1;

@@ -52,6 +52,7 @@ pub enum Refusal {
     Deadline(usize),
 }
 
+// The answer to a table: accepted, or refused and why.
 pub enum Verdict {
     Accepted,
     Refused(Refusal),

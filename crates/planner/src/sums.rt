@@ -1,12 +1,13 @@
 // The figures of a class: its rows taken together.
 ghost use mathlib.Core.Path.{_≡_};
 ghost use Prim.Native.Nat.{_≤_};
-ghost use Rattle.planner.specs.Rows.{sameClass, figuresOf};
-ghost use Rattle.planner.specs.Sums.{joined, Small, Grown};
+ghost use Rattle.planner.specs.Rows.{sameClass};
+ghost use Rattle.planner.specs.Steps.{figuresOf, joined, Small, Grown};
 use crate::Class;
 use crate::Figures;
 use crate::Row;
 use crate::Table;
+use crate::quotient::larger;
 use crate::wire::share;
 use crate::wire::size;
 
@@ -36,10 +37,9 @@ fn with_row(f: Figures, class: Class, row: Row) -> Figures
         return f;
     }
     let c = size(row);
-    let largest = if f.largest < c { c } else { f.largest };
     Figures {
         members: f.members + 1,
-        largest,
+        largest: larger(f.largest, c),
         total: f.total + c,
         shares: f.shares + share(row),
     }

@@ -1,17 +1,16 @@
 -- `planner::acceptance::first_late` meets its contract: a row's limit is its bound, and the search goes from row to row.
 use Rattle.planner.specs.declared.Row.{Row}
 use Rattle.planner.specs.Bound.{bound}
-use Prim.Native.Nat.{ℕ, _+_, _-_, _≤_, _<_}
+use Prim.Native.Nat.{ℕ, _-_, _≤_, _<_}
 use mathlib.Core.Bool.{true, false}
 use mathlib.Core.List.{List}
 use mathlib.Core.Path.{_≡_, refl, sym, _∙_, ap}
 use native.Mathlib.Omega.{arith}
 use borrow.Author.Needs.{needs}
 use borrow.Author.Tests.{le-leb, lt-leb}
-use lib.ListN.{length, getD, drop}
+use lib.ListN.{getD, drop}
 use Rattle.planner.specs.declared.Table.{Table}
 use Rattle.planner.specs.Rows.{noRow, rowsOf}
-use Rattle.planner.specs.Bound.{bounds}
 use Rattle.planner.specs.Opening.{firstFrom, timely}
 use Rattle.planner.proofs.Shape.{places}
 use Rattle.planner.proofs.Search.{found-here, found-later, found-none}
@@ -36,11 +35,11 @@ abbrev μ-loop : tie.MeasureT-loop
 loop-holds : tie.Need-loop-holds Inv-loop μ-loop
 loop-holds c = (refl, omega arith, c .pre .0, refl)
 
-mul-late : tie.Need-mul-late Inv-loop μ-loop
-mul-late c = omega arith
+mul-this : tie.Need-mul-this Inv-loop μ-loop
+mul-this c = omega arith
 
-element-copy-out-late : tie.Need-element-copy-out-late Inv-loop μ-loop
-element-copy-out-late c = omega arith
+element-copy-out-this : tie.Need-element-copy-out-this Inv-loop μ-loop
+element-copy-out-this c = omega arith
 
 mul-limit : tie.Need-mul-limit Inv-loop μ-loop
 mul-limit c = omega arith
@@ -89,8 +88,8 @@ first-late-spec =
     Inv-loop
     μ-loop
     loop-holds
-    mul-late
-    element-copy-out-late
+    mul-this
+    element-copy-out-this
     mul-limit
     array-read-limit
     cast-if1

@@ -1,15 +1,15 @@
 -- `planner::acceptance::lane_a` meets its contract: it is the definition, on figures that are the table's.
 use Prim.Native.Nat.{ℕ, max}
-use mathlib.Core.Path.{_≡_, refl, _∙_}
+use mathlib.Core.Path.{_≡_, refl}
 use native.Mathlib.Omega.{arith}
 use Rattle.planner.specs.declared.Class.the-variants.{A, B}
 use Rattle.planner.specs.declared.Figures.{Figures}
-use Rattle.planner.specs.declared.Lane.{Lane}
 use Rattle.planner.specs.declared.Table.{Table}
 use Rattle.planner.specs.Wire.{wireSize}
-use Rattle.planner.specs.Rows.{figuresOf, bestSize}
+use Rattle.planner.specs.Rows.{bestSize}
 use Rattle.planner.specs.Bound.{blocking}
 use Rattle.planner.specs.Plan.{laneOf}
+use Rattle.planner.specs.Steps.{figuresOf}
 use borrow.Author.Needs.{needs}
 use Rattle.planner.proofs.acceptance.lane_a.Statement.{statement}
 use Rattle.planner.proofs.acceptance.lane_a.Tie as tie

@@ -1,16 +1,16 @@
 -- `planner::acceptance::lane_b` meets its contract: it is the definition, on figures that are the table's.
 use Prim.Native.Nat.{ℕ, max, _+_, _-_, _*_, _≤_}
-use mathlib.Core.Path.{_≡_, refl, _∙_}
+use mathlib.Core.Path.{_≡_, refl}
 use native.Mathlib.Nat.{mul-le-mul}
 use native.Mathlib.Omega.{arith}
 use Rattle.planner.specs.declared.Class.the-variants.{A, B}
 use Rattle.planner.specs.declared.Figures.{Figures}
-use Rattle.planner.specs.declared.Lane.{Lane}
 use Rattle.planner.specs.declared.Table.{Table}
 use Rattle.planner.specs.Wire.{wireSize, ceilDiv}
-use Rattle.planner.specs.Rows.{figuresOf, bestSize}
+use Rattle.planner.specs.Rows.{bestSize}
 use Rattle.planner.specs.Bound.{blocking}
 use Rattle.planner.specs.Plan.{laneOf}
+use Rattle.planner.specs.Steps.{figuresOf}
 use Rattle.planner.proofs.Division.{ceil-le}
 use borrow.Author.Needs.{needs}
 use Rattle.planner.proofs.acceptance.lane_b.Statement.{statement}

@@ -1,7 +1,7 @@
 -- `planner::acceptance::plan` meets its contract: each return is the first check that fails.
-use Prim.Native.Nat.{ℕ, _≤_, _<_}
-use mathlib.Core.Bool.{Bool, true, false}
-use mathlib.Core.Path.{_≡_, refl, sym, _∙_, ap}
+use Prim.Native.Nat.{_≤_, _<_}
+use mathlib.Core.Bool.{true, false}
+use mathlib.Core.Path.{_≡_, sym, _∙_, ap}
 use lib.Dec.{leb}
 use borrow.Author.Tests.{le-leb, lt-leb, not-true, not-false}
 use Rattle.planner.specs.declared.Class.{Class}
@@ -10,8 +10,9 @@ use Rattle.planner.specs.declared.Figures.{Figures}
 use Rattle.planner.specs.declared.Table.{Table}
 use Rattle.planner.specs.declared.Refusal.the-variants.{Slopes, Shares}
 use Rattle.planner.specs.declared.Verdict.{Verdict}
-use Rattle.planner.specs.Rows.{idle, figuresOf}
-use Rattle.planner.specs.Opening.{Outcome, accepted, outcomeOf, sharesOk, ranged}
+use Rattle.planner.specs.Rows.{idle}
+use Rattle.planner.specs.Opening.{accepted, outcomeOf, sharesOk, ranged}
+use Rattle.planner.specs.Steps.{figuresOf}
 use Rattle.planner.proofs.Checks.{ranged-passes, count-limits}
 use Rattle.planner.proofs.Verdicts.{refused-right, by-range, by-slopes, by-shares-a, by-shares-b}
 use borrow.Author.Needs.{needs}

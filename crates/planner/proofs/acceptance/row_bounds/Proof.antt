@@ -1,9 +1,9 @@
 -- `planner::acceptance::row_bounds` meets its contract: after i rows the first i places hold their bounds and the others 0.
-use Prim.Native.Nat.{ℕ, _+_, _-_, _≤_, _<_}
+use Prim.Native.Nat.{_-_, _≤_, _<_}
 use mathlib.Core.Path.{_≡_, refl, sym, _∙_, ap}
 use native.Mathlib.Omega.{arith}
 use borrow.Author.Needs.{needs}
-use lib.ListN.{length, getD, set}
+use lib.ListN.{getD}
 use Rattle.planner.specs.Rows.{noRow, rowsOf}
 use Rattle.planner.specs.Bound.{bound, bounds}
 use Rattle.planner.proofs.Shape.{places, rows-length}

@@ -1,5 +1,5 @@
 -- `planner::acceptance::slopes_ok` meets its contract: each test that fails makes one part of `slopesOk` false.
-use Prim.Native.Nat.{ℕ, _+_}
+use Prim.Native.Nat.{_+_}
 use mathlib.Core.Bool.{Bool, true, false}
 use mathlib.Core.Path.{_≡_, refl, sym, _∙_, ap}
 use lib.Dec.{leb, eqb}
@@ -8,8 +8,9 @@ use Rattle.planner.specs.declared.Class.{Class}
 use Rattle.planner.specs.declared.Class.the-variants.{A, B}
 use Rattle.planner.specs.declared.Figures.{Figures}
 use Rattle.planner.specs.declared.Table.{Table}
-use Rattle.planner.specs.Rows.{figuresOf, idle}
+use Rattle.planner.specs.Rows.{idle}
 use Rattle.planner.specs.Opening.{sameTest, usedOk, slopesOk}
+use Rattle.planner.specs.Steps.{figuresOf}
 use borrow.Author.Needs.{needs}
 use Rattle.planner.proofs.acceptance.slopes_ok.Statement.{statement}
 use Rattle.planner.proofs.acceptance.slopes_ok.Tie as tie

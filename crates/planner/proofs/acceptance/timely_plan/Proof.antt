@@ -1,11 +1,9 @@
 -- `planner::acceptance::timely_plan` meets its contract: with the other checks passed, the first late row decides.
-use Prim.Native.Nat.{ℕ, _≤_}
-use mathlib.Core.Bool.{true}
-use mathlib.Core.Path.{_≡_, refl, sym, _∙_}
+use Prim.Native.Nat.{_≤_}
+use mathlib.Core.Path.{sym, _∙_}
 use Rattle.planner.specs.declared.Table.{Table}
 use Rattle.planner.specs.declared.Refusal.the-variants.{Deadline}
-use Rattle.planner.specs.Opening.{usedOk}
-use Rattle.planner.specs.Plan.{Passed}
+use Rattle.planner.specs.Steps.{Passed}
 use Rattle.planner.proofs.Checks.{ranged-passes, count-limits, header-limits, slope-limits}
 use Rattle.planner.proofs.Verdicts.{refused-right, accepted-right, by-deadline, by-none}
 use borrow.Author.Needs.{needs}

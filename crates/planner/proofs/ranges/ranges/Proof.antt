@@ -1,12 +1,12 @@
 -- `planner::ranges::ranges` meets its contract: each return is the first check that fails.
 use Prim.Native.Nat.{ℕ, _≤_, _<_}
-use mathlib.Core.Bool.{Bool, true, false}
+use mathlib.Core.Bool.{true, false}
 use mathlib.Core.Path.{_≡_, refl, sym, _∙_}
 use borrow.Author.Tests.{le-leb, lt-leb, not-true, not-false}
 use Rattle.planner.specs.declared.Table.{Table}
 use Rattle.planner.specs.declared.Found.the-variants.{At, Nothing}
 use Rattle.planner.specs.Rows.{rowsOf}
-use Rattle.planner.specs.Opening.{Outcome, accepted, refused, countOk, headerOk, rowOk, firstFrom, ranged}
+use Rattle.planner.specs.Opening.{accepted, refused, countOk, headerOk, rowOk, firstFrom, ranged}
 use borrow.Author.Needs.{needs}
 use Rattle.planner.proofs.ranges.ranges.Statement.{statement}
 use Rattle.planner.proofs.ranges.ranges.Tie as tie

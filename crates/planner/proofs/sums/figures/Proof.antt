@@ -1,10 +1,7 @@
-use Prim.Native.Nat.{ℕ, _≤_, _-_}
-use mathlib.Core.Path.{_≡_, refl, sym, _∙_}
+use Prim.Native.Nat.{_≤_, _-_}
+use mathlib.Core.Path.{_≡_, refl}
 use native.Mathlib.Omega.{arith}
-use borrow.Author.Needs.{needs}
-use lib.ListN.{drop}
-use Rattle.planner.specs.Rows.{rowsOf}
-use Rattle.planner.specs.Sums.{Small}
+use Rattle.planner.specs.Steps.{Small}
 use Rattle.planner.proofs.Shape.{places}
 use Rattle.planner.proofs.Left.{Remaining, at-start, after-turn, at-end}
 use Rattle.planner.proofs.sums.figures.Statement.{statement}

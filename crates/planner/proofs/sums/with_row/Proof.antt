@@ -1,8 +1,7 @@
-use Prim.Native.Nat.{ℕ, _+_, _≤_, max}
-use mathlib.Core.Bool.{true, false, not}
+use Prim.Native.Nat.{ℕ, _+_, max}
+use mathlib.Core.Bool.{true, false}
 use mathlib.Core.Path.{_≡_, refl, sym, _∙_}
 use borrow.Author.Tests.{not-true, not-false}
-use mathlib.Core.Logic.{⊎-elim}
 use native.Mathlib.Nat.{add-zero, max-zero}
 use native.Mathlib.Omega.{arith}
 use Rattle.planner.specs.declared.Class.{Class}
@@ -10,7 +9,7 @@ use Rattle.planner.specs.declared.Row.{Row}
 use Rattle.planner.specs.declared.Figures.{Figures}
 use Rattle.planner.specs.Rows.{sameClass}
 use Rattle.planner.specs.Wire.{sizeOf, shareOf}
-use Rattle.planner.specs.Sums.{joined, Grown}
+use Rattle.planner.specs.Steps.{joined}
 use borrow.Author.Needs.{needs}
 use Rattle.planner.proofs.sums.with_row.Statement.{statement}
 use Rattle.planner.proofs.sums.with_row.Tie as tie
@@ -32,25 +31,29 @@ returns c =
 size-requires : tie.Need-size-requires
 size-requires c κs = search needs
 
+add-t8 : tie.Need-add-t8
+add-t8 c = search needs
+
+larger-requires : tie.Need-larger-requires
+larger-requires c κs = search needs
+
 add-t10 : tie.Need-add-t10
 add-t10 c = search needs
-
-add-t11 : tie.Need-add-t11
-add-t11 c = search needs
 
 share-requires : tie.Need-share-requires
 share-requires c κs = search needs
 
-add-t13 : tie.Need-add-t13
-add-t13 c = search needs
+add-t12 : tie.Need-add-t12
+add-t12 c = search needs
 
 returns-2 : tie.Need-returns-2
 returns-2 c =
-    let at-size = c .before .before .before .before .before .before in
-    let a = at-size .before .before .before .args in
-    let l : c .before .before .before .before .if2 .largest ≡ max (a .f .largest) (at-size .size .result) = ⊎-elim (λ w. omega arith) (λ w. omega arith) (c .before .before .before .before .if2 .came) in (
-      own (a .f) (a .class) (a .row) _ _ _ (sym (at-size .before .before .same-class .ensures) ∙ not-false _ (at-size .before .if1 .left)) (at-size .size .ensures .0) (c .before .share .ensures .0) l,
-      omega (arith, l),
+    let at-larger = c .before .before .before in
+    let at-size = at-larger .before .before in
+    let at-test = at-size .before .before in
+    let a = at-test .before .args in (
+      own (a .f) (a .class) (a .row) _ _ _ (sym (at-test .same-class .ensures) ∙ not-false _ (at-size .before .if1 .left)) (at-size .size .ensures .0) (c .before .share .ensures .0) (at-larger .larger .ensures),
+      omega arith,
     )
 
 pub with-row-spec : {M : Type 1} → statement M
@@ -60,8 +63,9 @@ with-row-spec =
     same-class-requires
     returns
     size-requires
+    add-t8
+    larger-requires
     add-t10
-    add-t11
     share-requires
-    add-t13
+    add-t12
     returns-2)

@@ -1,0 +1,18 @@
+-- The proof of demand 3, in the paper's order. `Theorem` has the theorem, `Facts` the document's worked numbers.
+mod Credit
+mod Tokens
+mod OneClass
+mod Both
+mod Invariant
+mod Start
+mod Byte
+mod Age
+mod Offers
+mod Soundness
+mod Fresh
+mod Advances
+mod Conservation
+mod Trace
+mod Lists
+pub mod Theorem
+pub mod Facts

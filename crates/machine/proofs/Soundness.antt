@@ -1,0 +1,158 @@
+-- No clause of "broken" holds of a port that keeps the invariant: no call meets 18.
+use Prim.Native.Nat.{ℕ, zero, suc, _+_, _-_, _*_, _≤_, _<_}
+use mathlib.Core.Bool.{Bool, true, false, _&&_}
+use mathlib.Core.List.{List, [], _∷_}
+use mathlib.Core.Path.{_≡_, refl, sym, _∙_, ap}
+use native.Mathlib.Nat.{le-refl, lt-suc-self, lt-trans}
+use native.Mathlib.Omega.{arith}
+use lib.IntN.{ℤ, pos, negsuc}
+use lib.Dec.{leb, ltb, eqb}
+use lib.ListN.{length, getD}
+use borrow.Author.Tests.{lt-ltb, le-leb, eq-eqb}
+use Rattle.planner.specs.declared.Class.{Class}
+use Rattle.planner.specs.declared.Class.the-variants.{A, B}
+use Rattle.planner.specs.declared.Table.{Table}
+use Rattle.planner.specs.Rows.{rowsOf, rowAt, largest, idle, send}
+use Rattle.planner.specs.Bound.{blocking, bound}
+use Rattle.planner.proofs.Laws as law
+use Rattle.machine.specs.declared.Frame.{Frame}
+use Rattle.machine.specs.declared.Wire.{Wire}
+use Rattle.machine.specs.declared.Wire.the-variants.{Free, Sending}
+use Rattle.machine.specs.State.{Instant, never, at, State}
+use Rattle.machine.specs.Time.{Owner, shaped, unshaped, owner}
+use Rattle.machine.specs.Record.{lastClock, allOf, onSending, between, ofRow, ofBest, ofOwner, notAfter, noneAfter, takenBy, held, upTo, rowOnly, eachRowFrame, isAt, tableSound, clockSound, creditSound, bestSound, framesSound, leftSound, instantsSound, singleSound, latestSound, ageSound, sound}
+use Rattle.machine.proofs.Credit.{Headroom}
+use Rattle.machine.proofs.OneClass.{All}
+use Rattle.machine.proofs.Invariant.{line, RowFrame, BestFrame, WireFrame, OnTheWire, NoneAfter, Inv, ceiling}
+use Rattle.machine.proofs.Byte.{row-sends}
+use Rattle.machine.proofs.Age.{Young, YoungWire, YoungOn, young-a, young-b, young-wire}
+
+-- ---- tests from facts
+both : {x y : Bool} → x ≡ true → y ≡ true → (x && y) ≡ true
+both e f = rw (e, f) refl
+
+all-pass : (ok : Frame → Bool) (P : Frame → Type 0) → ((f : Frame) → P f → ok f ≡ true) → (q : List Frame) → All P q → allOf ok q ≡ true
+all-pass ok P each [] p = refl
+all-pass ok P each (f ∷ q) p = rw (each f (p .0)) (all-pass ok P each q (p .1))
+
+credit-within : (c : ℤ) (u low high : ℕ) → Headroom u c low → u ≤ high + low → between low high c ≡ true
+credit-within (pos n) u low high h top = le-leb n high (omega arith)
+credit-within (negsuc n) u low high h top = le-leb (suc n) low (omega arith)
+
+row-passes : (c : Class) (t : Table) (last : List Instant) (f : Frame) → RowFrame c t last f → ofRow c t f ≡ true
+unfolding ofRow
+row-passes c t last f r = rw (lt-ltb _ _ (r .names), r .class, law.same-self c, le-leb _ _ (r .least), le-leb _ _ (r .most)) refl
+
+best-passes : (t : Table) (now : ℕ) (f : Frame) → BestFrame t now f → ofBest t f ≡ true
+unfolding ofBest
+best-passes t now f r = rw (eq-eqb _ _ (r .mark), le-leb _ _ (r .least), le-leb _ _ (r .most)) refl
+
+up-to : (n : ℕ) (ok : ℕ → Bool) → ((k : ℕ) → k < n → ok k ≡ true) → upTo n ok ≡ true
+up-to zero ok each = refl
+up-to (suc n) ok each = rw (up-to n ok (λ k h. each k (lt-trans h (lt-suc-self n)))) (each n (lt-suc-self n))
+
+none-after : (now : ℕ) (is : List Instant) → NoneAfter now is → noneAfter now is ≡ true
+none-after now [] p = refl
+none-after now (never ∷ is) p = none-after now is p
+none-after now (at k ∷ is) p = rw (le-leb k now (p .0)) (none-after now is (p .1))
+
+is-at : (k : ℕ) (i : Instant) → i ≡ at k → isAt k i ≡ true
+is-at k i e = rw e (eq-eqb k k refl)
+
+module _ (s : State) (ua ub : ℕ) (i : Inv s ua ub) where
+  table-sound : tableSound s ≡ true
+  unfolding tableSound
+  table-sound = rw (law.accepted-only-if (s .table) (i .accepted)) refl
+
+  clock-sound : clockSound s ≡ true
+  unfolding clockSound
+  clock-sound = le-leb _ _ (i .clock)
+
+  credit-a : creditSound A s ≡ true
+  unfolding creditSound
+  credit-a = credit-within (s .credita) ua _ _ (i .class-a .head) (ceiling (s .table) (i .accepted) A (line (s .table) (s .wire)) ua ub (i .ceilings))
+
+  credit-b : creditSound B s ≡ true
+  unfolding creditSound
+  credit-b = credit-within (s .creditb) ub _ _ (i .class-b .head) (ceiling (s .table) (i .accepted) B (line (s .table) (s .wire)) ua ub (i .ceilings))
+
+  best-sound : bestSound s ≡ true
+  unfolding bestSound
+  best-sound = le-leb _ _ (i .few)
+
+  -- the frame on the wire
+  wire-owned : (w : Wire) → OnTheWire (s .table) (s .clock) (s .last) w → onSending (λ f left. ofOwner (owner (s .table) f) (s .table) f) w ≡ true
+  wire-owned Free r = refl
+  wire-owned (Sending f l) r = go (owner (s .table) f) r
+    where
+      go : (o : Owner) → WireFrame o (s .table) (s .clock) (s .last) f l → ofOwner o (s .table) f ≡ true
+      go (shaped c) q = row-passes c (s .table) (s .last) f q
+      go unshaped q = best-passes (s .table) (s .clock) f (q .0)
+
+  frames-sound : framesSound s ≡ true
+  unfolding framesSound
+  frames-sound =
+      both
+      (both (all-pass (ofRow A (s .table)) (RowFrame A (s .table) (s .last)) (row-passes A (s .table) (s .last)) (s .a) (i .rows-a)) (all-pass (ofRow B (s .table)) (RowFrame B (s .table) (s .last)) (row-passes B (s .table) (s .last)) (s .b) (i .rows-b)))
+      (both (all-pass (ofBest (s .table)) (BestFrame (s .table) (s .clock)) (best-passes (s .table) (s .clock)) (s .best) (i .best)) (wire-owned (s .wire) (i .wire)))
+
+  -- its bytes left and its instant
+  sends : (f : Frame) (l : ℕ) → s .wire ≡ Sending f l → (o : Owner) → owner (s .table) f ≡ o → WireFrame o (s .table) (s .clock) (s .last) f l → (1 ≤ l) × (l ≤ f .size) × (f .taken ≤ s .clock)
+  sends f l e (shaped c) own r = let m = row-sends s ua ub i f l e c own in (m .some, m .whole, m .past)
+  sends f l e unshaped own r = (r .1, r .2, r .0 .past)
+
+  sending-facts : (f : Frame) (l : ℕ) → s .wire ≡ Sending f l → (1 ≤ l) × (l ≤ f .size) × (f .taken ≤ s .clock)
+  sending-facts f l e = sends f l e (owner (s .table) f) refl (rw e at (i .wire))
+
+  wire-left : (w : Wire) → s .wire ≡ w → onSending (λ f left. leb 1 left && leb left (f .size)) w ≡ true
+  wire-left Free e = refl
+  wire-left (Sending f l) e = let m = sending-facts f l e in both (le-leb 1 l (m .0)) (le-leb l (f .size) (m .1))
+
+  left-sound : leftSound s ≡ true
+  unfolding leftSound
+  left-sound = wire-left (s .wire) refl
+
+  wire-taken : (w : Wire) → s .wire ≡ w → onSending (λ f left. takenBy (s .clock) f) w ≡ true
+  wire-taken Free e = refl
+  wire-taken (Sending f l) e = le-leb (f .taken) (s .clock) (sending-facts f l e .2)
+
+  taken-by : (q : List Frame) → All (λ f. f .taken ≤ s .clock) q → allOf (takenBy (s .clock)) q ≡ true
+  taken-by q p = all-pass (takenBy (s .clock)) (λ f. f .taken ≤ s .clock) (λ f h. le-leb (f .taken) (s .clock) h) q p
+
+  instants-sound : instantsSound s ≡ true
+  unfolding instantsSound
+  instants-sound =
+      both
+      (both (both (taken-by (s .a) (i .class-a .past)) (taken-by (s .b) (i .class-b .past)))
+      (both (all-pass (takenBy (s .clock)) (BestFrame (s .table) (s .clock)) (λ f r. le-leb (f .taken) (s .clock) (r .past)) (s .best) (i .best)) (wire-taken (s .wire) refl)))
+      (none-after (s .clock) (s .last) (i .none-after))
+
+  single-sound : singleSound s ≡ true
+  unfolding singleSound held
+  single-sound = up-to (length (rowsOf (s .table))) _ (λ k h. le-leb _ _ (i .single k h))
+
+  -- what holds of each young frame
+  each-row-frame : (ok : Frame → Bool) → ((f : Frame) → Young (s .table) (s .clock) (s .last) f → ok f ≡ true) → eachRowFrame ok s ≡ true
+  each-row-frame ok each =
+      both (both (all-pass ok (Young (s .table) (s .clock) (s .last)) each (s .a) (young-a s ua ub i)) (all-pass ok (Young (s .table) (s .clock) (s .last)) each (s .b) (young-b s ua ub i)))
+      (on (s .wire) (young-wire s ua ub i (s .wire) refl))
+    where
+      by-owner : (f : Frame) (o : Owner) → YoungWire o (s .table) (s .clock) (s .last) f → rowOnly o (ok f) ≡ true
+      by-owner f (shaped c) y = each f y
+      by-owner f unshaped y = refl
+
+      on : (w : Wire) → YoungOn (s .table) (s .clock) (s .last) w → onSending (λ f left. rowOnly (owner (s .table) f) (ok f)) w ≡ true
+      on Free y = refl
+      on (Sending f l) y = by-owner f (owner (s .table) f) y
+
+  latest-sound : latestSound s ≡ true
+  unfolding latestSound
+  latest-sound = each-row-frame (λ f. isAt (f .taken) (getD (s .last) (f .source) never)) (λ f y. is-at (f .taken) (getD (s .last) (f .source) never) (y .latest))
+
+  age-sound : ageSound s ≡ true
+  unfolding ageSound
+  age-sound = each-row-frame (λ f. ltb (s .clock - f .taken) (bound (s .table) (rowAt (s .table) (f .source)))) (λ f y. lt-ltb _ _ (y .young))
+
+  pub is-sound : sound s ≡ true
+  unfolding sound
+  is-sound = rw (table-sound, clock-sound, credit-a, credit-b, best-sound, frames-sound, left-sound, instants-sound, single-sound, latest-sound, age-sound) refl

@@ -1,0 +1,136 @@
+-- The three calls of a list: what each answers, and the port that it gives.
+use Prim.Native.Nat.{ℕ, _+_, _-_}
+use mathlib.Core.Bool.{Bool, true, false, not}
+use mathlib.Core.List.{List, [], _∷_, _++_}
+use mathlib.Core.Path.{_≡_}
+use lib.Dec.{leb, ltb}
+use lib.ListN.{length, getD, set}
+use Rattle.planner.specs.declared.Class.{Class}
+use Rattle.planner.specs.declared.Class.the-variants.{A, B}
+use Rattle.planner.specs.declared.Row.{Row}
+use Rattle.planner.specs.declared.Table.{Table}
+use Rattle.planner.specs.Wire.{wireSize, sizeFor, periodOf}
+use Rattle.planner.specs.Rows.{rowsOf, rowAt}
+use Rattle.planner.specs.Opening.{Outcome, accepted, refused, unless, first, opening}
+use Rattle.machine.specs.declared.Frame.{Frame}
+use Rattle.machine.specs.declared.Ended.{Ended}
+use Rattle.machine.specs.declared.Denial.{Denial}
+use Rattle.machine.specs.declared.Denial.the-variants.{Broken, NoSuchRow, Payload, Early, BestEffortFull, TooManySteps, PastLastClock}
+use Rattle.machine.specs.declared.Offer.{Offer}
+use Rattle.machine.specs.declared.Offer.the-variants as offers
+use Rattle.machine.specs.declared.Advance.{Advance}
+use Rattle.machine.specs.declared.Advance.the-variants as advances
+use Rattle.machine.specs.declared.Port.{Port}
+use Rattle.machine.specs.State.{Instant, never, at, State, fresh, view}
+use Rattle.machine.specs.Time.{progress}
+use Rattle.machine.specs.Record.{lastClock, bestMark, sound}
+
+-- The calls in the lists of demand 3.
+pub data Call : Type 0 where
+  offer : (row payload : ℕ) → Call
+  offerBest : (payload : ℕ) → Call
+  advance : (n : ℕ) → Call
+
+-- What a call answers: an offer is taken, an advance gives the count passed and the ended frame or none; or it is refused with a number and a place.
+pub data Answer : Type 0 where
+  taken : Answer
+  passed : (n : ℕ) → Ended → Answer
+  denied : (number place : ℕ) → Answer
+
+-- Early means clock − last taken instant < P; a first frame is never early.
+abbrev pub tooSoon : Instant → ℕ → ℕ → Bool
+tooSoon never now period = false
+tooSoon (at k) now period = ltb (now - k) period
+
+abbrev pub early : State → ℕ → Bool
+early s k = tooSoon (getD (s .last) k never) (s .clock) (periodOf (rowAt (s .table) k))
+
+-- Offer to a row: 18, broken record. 11, no such row. 12, payload above the row's. 13, early.
+unfoldable pub offerCheck : State → ℕ → ℕ → Outcome
+offerCheck s k p =
+    first
+    (unless (sound s) 18 0
+    ∷ unless (ltb k (length (rowsOf (s .table)))) 11 0
+    ∷ unless (leb p (rowAt (s .table) k .payload)) 12 0
+    ∷ unless (not (early s k)) 13 0
+    ∷ [])
+
+-- Offer of best effort: 18. 12, payload above the table's. 14, 16 waiting.
+unfoldable pub bestCheck : State → ℕ → Outcome
+bestCheck s p = first (unless (sound s) 18 0 ∷ unless (leb p (s .table .payload)) 12 0 ∷ unless (ltb (length (s .best)) 16) 14 0 ∷ [])
+
+-- Advance: 18. 15, n above 65,535. 16, clock + n past its last value.
+unfoldable pub advanceCheck : State → ℕ → Outcome
+advanceCheck s n = first (unless (sound s) 18 0 ∷ unless (leb n 65535) 15 0 ∷ unless (leb (s .clock + n) lastClock) 16 0 ∷ [])
+
+-- Taken, a row's frame joins its class's queue.
+abbrev pub rowFrame : State → ℕ → ℕ → Frame
+rowFrame s k p = record { source = k; size = sizeFor (rowAt (s .table) k) p; taken = s .clock }
+
+abbrev pub joined : Class → Frame → State → State
+joined A f s = record { table = s .table; clock = s .clock; credita = s .credita; creditb = s .creditb; a = s .a ++ f ∷ []; b = s .b; best = s .best; last = set (s .last) (f .source) (at (f .taken)); wire = s .wire }
+joined B f s = record { table = s .table; clock = s .clock; credita = s .credita; creditb = s .creditb; a = s .a; b = s .b ++ f ∷ []; best = s .best; last = set (s .last) (f .source) (at (f .taken)); wire = s .wire }
+
+unfoldable pub takeRow : ℕ → ℕ → State → State
+takeRow k p s = joined (rowAt (s .table) k .class) (rowFrame s k p) s
+
+abbrev pub bestFrame : State → ℕ → Frame
+bestFrame s p = record { source = bestMark; size = wireSize p; taken = s .clock }
+
+unfoldable pub takeBest : ℕ → State → State
+takeBest p s = record { table = s .table; clock = s .clock; credita = s .credita; creditb = s .creditb; a = s .a; b = s .b; best = s .best ++ bestFrame s p ∷ []; last = s .last; wire = s .wire }
+
+-- A refusal changes nothing.
+abbrev pub stateBy : Outcome → State → State → State
+stateBy accepted new old = new
+stateBy (refused n p) new old = old
+
+abbrev pub answerBy : Outcome → Answer → Answer
+answerBy accepted a = a
+answerBy (refused n p) a = denied n p
+
+-- The port after a call, and its answer.
+abbrev pub after : State → Call → State
+after s (offer k p) = stateBy (offerCheck s k p) (takeRow k p s) s
+after s (offerBest p) = stateBy (bestCheck s p) (takeBest p s) s
+after s (advance n) = stateBy (advanceCheck s n) (progress n s .state) s
+
+abbrev pub answer : State → Call → Answer
+answer s (offer k p) = answerBy (offerCheck s k p) taken
+answer s (offerBest p) = answerBy (bestCheck s p) taken
+answer s (advance n) = answerBy (advanceCheck s n) (passed (progress n s .passed) (progress n s .ended))
+
+-- The number of each case of the refusal enum. The place is 0.
+abbrev pub numberOf : Denial → ℕ
+numberOf Broken = 18
+numberOf NoSuchRow = 11
+numberOf Payload = 12
+numberOf Early = 13
+numberOf BestEffortFull = 14
+numberOf TooManySteps = 15
+numberOf PastLastClock = 16
+
+-- The answer that each case of the answer enums stands for.
+abbrev pub offerAnswer : Offer → Answer
+offerAnswer offers.Taken = taken
+offerAnswer (offers.Refused d) = denied (numberOf d) 0
+
+abbrev pub advanceAnswer : Advance → Answer
+advanceAnswer (advances.Passed n e) = passed n e
+advanceAnswer (advances.Refused d) = denied (numberOf d) 0
+
+-- What a call gives: the machine's answer, the machine's port, and at a refusal the record as it was, every place.
+abbrev pub Keeps : Answer → Port → Port → Type 0
+Keeps taken p q = Unit {0}
+Keeps (passed n e) p q = Unit {0}
+Keeps (denied n l) p q = q ≡ p
+
+pub record Gives (p : Port) (c : Call) (a : Answer) (q : Port) : Type 0 where
+  pub answer : a ≡ answer (view p) c
+  pub port : view q ≡ after (view p) c
+  pub kept : Keeps a p q
+
+-- Opening an accepted table gives the fresh port.
+pub record Opened (t : Table) (p : Port) : Type 0 where
+  pub accepted : opening t ≡ accepted
+  pub port : view p ≡ fresh t

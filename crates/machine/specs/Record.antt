@@ -1,0 +1,162 @@
+-- When a record is broken: document 01's clauses, each with a name, stated as what a sound record has.
+use Prim.Native.Nat.{ℕ, zero, suc, _+_, _-_, _*_}
+use mathlib.Core.Bool.{Bool, true, false, not, cond, _&&_}
+use mathlib.Core.List.{List, [], _∷_}
+use lib.IntN.{ℤ, pos, negsuc}
+use lib.Dec.{leb, ltb, eqb}
+use lib.ListN.{length, getD}
+use Rattle.planner.specs.declared.Class.{Class}
+use Rattle.planner.specs.declared.Class.the-variants.{A, B}
+use Rattle.planner.specs.declared.Table.{Table}
+use Rattle.planner.specs.Wire.{sizeOf}
+use Rattle.planner.specs.Rows.{rowsOf, rowAt, inClass, largest, idle, send, bestSize}
+use Rattle.planner.specs.Bound.{blocking, bound}
+use Rattle.planner.specs.Opening.{Outcome, accepted, refused, opening}
+use Rattle.machine.specs.declared.Frame.{Frame}
+use Rattle.machine.specs.declared.Wire.{Wire}
+use Rattle.machine.specs.declared.Wire.the-variants.{Free, Sending}
+use Rattle.machine.specs.State.{Instant, never, at, State, credit, queue}
+use Rattle.machine.specs.Time.{Owner, shaped, unshaped, owner}
+
+-- The clock's last value.
+abbrev pub lastClock : ℕ
+lastClock = 1099511627775
+
+-- The best-effort mark of a frame.
+abbrev pub bestMark : ℕ
+bestMark = 32
+
+abbrev pub isAccepted : Outcome → Bool
+isAccepted accepted = true
+isAccepted (refused n p) = false
+
+abbrev pub allOf : (Frame → Bool) → List Frame → Bool
+allOf ok [] = true
+allOf ok (f ∷ fs) = ok f && allOf ok fs
+
+-- Of the frame on the wire, if there is one.
+abbrev pub onSending : (Frame → ℕ → Bool) → Wire → Bool
+onSending ok Free = true
+onSending ok (Sending f left) = ok f left
+
+-- Its table is accepted.
+unfoldable pub tableSound : State → Bool
+tableSound s = isAccepted (opening (s .table))
+
+-- Its clock is in range.
+unfoldable pub clockSound : State → Bool
+clockSound s = leb (s .clock) lastClock
+
+-- A credit is in range, −S × L to I × H.
+abbrev pub between : ℕ → ℕ → ℤ → Bool
+between low high (pos n) = leb n high
+between low high (negsuc n) = leb (suc n) low
+
+unfoldable pub creditSound : Class → State → Bool
+creditSound c s = between (send c (s .table) * largest c (s .table)) (idle c (s .table) * blocking c (s .table)) (credit c s)
+
+-- No more than 16 best-effort frames wait.
+unfoldable pub bestSound : State → Bool
+bestSound s = leb (length (s .best)) 16
+
+-- A frame names a row of the table, is in the right queue and has a size from 84 to its row's C (best effort: LC).
+unfoldable pub ofRow : Class → Table → Frame → Bool
+ofRow c t f = (ltb (f .source) (length (rowsOf t)) && inClass c (rowAt t (f .source))) && (leb 84 (f .size) && leb (f .size) (sizeOf (rowAt t (f .source))))
+
+unfoldable pub ofBest : Table → Frame → Bool
+ofBest t f = eqb (f .source) bestMark && (leb 84 (f .size) && leb (f .size) (bestSize t))
+
+abbrev pub ofOwner : Owner → Table → Frame → Bool
+ofOwner (shaped c) t f = ofRow c t f
+ofOwner unshaped t f = ofBest t f
+
+unfoldable pub framesSound : State → Bool
+framesSound s =
+    (allOf (ofRow A (s .table)) (s .a) && allOf (ofRow B (s .table)) (s .b))
+    && (allOf (ofBest (s .table)) (s .best) && onSending (λ f left. ofOwner (owner (s .table) f) (s .table) f) (s .wire))
+
+-- Bytes left are 1 to the size.
+unfoldable pub leftSound : State → Bool
+leftSound s = onSending (λ f left. leb 1 left && leb left (f .size)) (s .wire)
+
+-- No instant of a frame or of a row in use is after the clock.
+abbrev pub notAfter : ℕ → Instant → Bool
+notAfter now never = true
+notAfter now (at k) = leb k now
+
+abbrev pub noneAfter : ℕ → List Instant → Bool
+noneAfter now [] = true
+noneAfter now (i ∷ is) = notAfter now i && noneAfter now is
+
+abbrev pub takenBy : ℕ → Frame → Bool
+takenBy now f = leb (f .taken) now
+
+unfoldable pub instantsSound : State → Bool
+instantsSound s =
+    ((allOf (takenBy (s .clock)) (s .a) && allOf (takenBy (s .clock)) (s .b)) && (allOf (takenBy (s .clock)) (s .best) && onSending (λ f left. takenBy (s .clock) f) (s .wire)))
+    && noneAfter (s .clock) (s .last)
+
+-- How many frames of a row are in the port: waiting, or on the wire.
+abbrev pub count : Bool → ℕ
+count true = 1
+count false = 0
+
+abbrev pub inQueue : ℕ → List Frame → ℕ
+inQueue k [] = 0
+inQueue k (f ∷ fs) = count (eqb (f .source) k) + inQueue k fs
+
+abbrev pub sending : ℕ → Wire → ℕ
+sending k Free = 0
+sending k (Sending f left) = count (eqb (f .source) k)
+
+unfoldable pub held : ℕ → State → ℕ
+held k s = inQueue k (s .a) + inQueue k (s .b) + sending k (s .wire)
+
+-- No row has two frames in the port.
+abbrev pub upTo : ℕ → (ℕ → Bool) → Bool
+upTo zero ok = true
+upTo (suc n) ok = upTo n ok && ok n
+
+unfoldable pub singleSound : State → Bool
+singleSound s = upTo (length (rowsOf (s .table))) (λ k. leb (held k s) 1)
+
+-- What holds of each row's frame in the port, waiting or on the wire.
+abbrev pub rowOnly : Owner → Bool → Bool
+rowOnly (shaped c) ok = ok
+rowOnly unshaped ok = true
+
+abbrev pub eachRowFrame : (Frame → Bool) → State → Bool
+eachRowFrame ok s = (allOf ok (s .a) && allOf ok (s .b)) && onSending (λ f left. rowOnly (owner (s .table) f) (ok f)) (s .wire)
+
+-- A row's frame was taken at the row's last instant.
+abbrev pub isAt : ℕ → Instant → Bool
+isAt k never = false
+isAt k (at j) = eqb j k
+
+unfoldable pub latestSound : State → Bool
+latestSound s = eachRowFrame (λ f. isAt (f .taken) (getD (s .last) (f .source) never)) s
+
+-- A row's frame is younger than its bound.
+unfoldable pub ageSound : State → Bool
+ageSound s = eachRowFrame (λ f. ltb (s .clock - f .taken) (bound (s .table) (rowAt (s .table) (f .source)))) s
+
+abbrev pub allTrue : List Bool → Bool
+allTrue [] = true
+allTrue (b ∷ bs) = b && allTrue bs
+
+-- A record is broken if any of these fails.
+unfoldable pub sound : State → Bool
+sound s =
+    allTrue
+    (tableSound s
+    ∷ clockSound s
+    ∷ creditSound A s
+    ∷ creditSound B s
+    ∷ bestSound s
+    ∷ framesSound s
+    ∷ leftSound s
+    ∷ instantsSound s
+    ∷ singleSound s
+    ∷ latestSound s
+    ∷ ageSound s
+    ∷ [])
