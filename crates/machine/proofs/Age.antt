@@ -9,11 +9,11 @@ use native.Mathlib.Omega.{arith}
 use lib.IntN.{ℤ}
 use lib.Dec.{eqb}
 use lib.ListN.{length, getD}
-use borrow.Author.Tests.{eqb-true}
+use borrow.Author.Tests.{eqb-true, ltb-false}
 use Rattle.planner.specs.declared.Class.{Class}
 use Rattle.planner.specs.declared.Class.the-variants.{A, B}
 use Rattle.planner.specs.declared.Table.{Table}
-use Rattle.planner.specs.Wire.{sizeOf}
+use Rattle.planner.specs.Wire.{sizeOf, periodOf}
 use Rattle.planner.specs.Rows.{rowsOf, rowAt, largest, total, idle, send}
 use Rattle.planner.specs.Bound.{blocking, bound}
 use Rattle.planner.specs.Opening.{IsAccepted}
@@ -24,9 +24,10 @@ use Rattle.machine.specs.declared.Wire.the-variants.{Free, Sending}
 use Rattle.machine.specs.State.{Instant, never, at, State}
 use Rattle.machine.specs.Time.{Owner, shaped, unshaped, owner}
 use Rattle.machine.specs.Record.{count, inQueue, sending}
+use Rattle.machine.specs.Calls.{tooSoon, early}
 use Rattle.machine.proofs.OneClass.{Look, mine, other, bytes, All, Kept, Waits}
-use Rattle.machine.proofs.Invariant.{look, line, RowFrame, WireFrame, KeptBy, Inv, row-bounded, ceiling, pick, row-owner}
-use Rattle.machine.proofs.Byte.{row-sends, row-is}
+use Rattle.machine.proofs.Invariant.{look, line, RowFrame, WireFrame, KeptBy, Inv, row-bounded, ceiling, named-owner}
+use Rattle.machine.proofs.Byte.{row-sends}
 
 -- a row's frame, of whichever class: young, taken at the row's last instant, and not after the clock
 pub record Young (t : Table) (now : ℕ) (last : List Instant) (f : Frame) : Type 0 where
@@ -80,25 +81,38 @@ held-in P k (f ∷ q) p h = go (eqb (f .source) k) refl (held-in P k q (p .1))
     go true e rest = (f, eqb-true (f .source) k e, p .0)
     go false e rest = rest (let z : count (eqb (f .source) k) ≡ 0 = ap count e in omega arith)
 
--- if a row has a frame in the port: that frame
-module _ (s : State) (ua ub : ℕ) (i : Inv s ua ub) (k : ℕ) (h : k < length (rowsOf (s .table))) where
+-- if a row has a frame in the port: that frame. Asked of any port whose rows' frames are young
+module _ (s : State) (ya : All (Young (s .table) (s .clock) (s .last)) (s .a)) (yb : All (Young (s .table) (s .clock) (s .last)) (s .b)) (yw : YoungOn (s .table) (s .clock) (s .last) (s .wire)) (k : ℕ) (h : k < length (rowsOf (s .table))) where
   abbrev Found : Type 0
   Found = (f : Frame) × (f .source ≡ k) × Young (s .table) (s .clock) (s .last) f
 
-  on-wire : (w : Wire) → s .wire ≡ w → 1 ≤ sending k w → Found
-  on-wire Free e g = absurd (omega arith)
-  on-wire (Sending f l) e g = go (eqb (f .source) k) refl
+  on-wire : (w : Wire) → YoungOn (s .table) (s .clock) (s .last) w → 1 ≤ sending k w → Found
+  on-wire Free y g = absurd (omega arith)
+  on-wire (Sending f l) y g = go (eqb (f .source) k) refl
     where
       go : (b : Bool) → eqb (f .source) k ≡ b → Found
       go true q =
           let is = eqb-true (f .source) k q in
-          (f, is, rw (row-is s ua ub i f l e (rw is h)) at (young-wire s ua ub i (Sending f l) e))
+          (f, is, rw (named-owner (s .table) f (rw is h)) at y)
       go false q = let z : count (eqb (f .source) k) ≡ 0 = ap count q in absurd (omega arith)
 
   pub held-young : 1 ≤ inQueue k (s .a) + inQueue k (s .b) + sending k (s .wire) → Found
   held-young g =
       ⊎-elim
-      (λ za.
-      ⊎-elim (λ zb. on-wire (s .wire) refl (omega arith)) (λ pb. held-in (Young (s .table) (s .clock) (s .last)) k (s .b) (young-b s ua ub i) pb) (eq-zero-or-pos (inQueue k (s .b))))
-      (λ pa. held-in (Young (s .table) (s .clock) (s .last)) k (s .a) (young-a s ua ub i) pa)
+      (λ za. ⊎-elim (λ zb. on-wire (s .wire) yw (omega arith)) (λ pb. held-in (Young (s .table) (s .clock) (s .last)) k (s .b) yb pb) (eq-zero-or-pos (inQueue k (s .b))))
+      (λ pa. held-in (Young (s .table) (s .clock) (s .last)) k (s .a) ya pa)
       (eq-zero-or-pos (inQueue k (s .a)))
+
+-- ---- an offer that is not early finds no frame of its row in the port
+not-soon : (l : Instant) (now p k : ℕ) → tooSoon l now p ≡ false → l ≡ at k → p ≤ now - k
+not-soon never now p k e q = let z : _≡_ {A = ℕ} 0 1 = cc in absurd (omega arith)
+not-soon (at j) now p k e q = let same : j ≡ k = cc in omega (arith, ltb-false (now - j) p e)
+
+pub none-held : (s : State) → IsAccepted (s .table) → All (Young (s .table) (s .clock) (s .last)) (s .a) → All (Young (s .table) (s .clock) (s .last)) (s .b) → YoungOn (s .table) (s .clock) (s .last) (s .wire) → (k : ℕ) → k < length (rowsOf (s .table)) → early s k ≡ false → inQueue k (s .a) + inQueue k (s .b) + sending k (s .wire) ≡ 0
+none-held s ok ya yb yw k h late = ⊎-elim (λ z. z) (λ p. absurd (clash (held-young s ya yb yw k h p))) (eq-zero-or-pos (inQueue k (s .a) + inQueue k (s .b) + sending k (s .wire)))
+  where
+    clash : (f : Frame) × (f .source ≡ k) × Young (s .table) (s .clock) (s .last) f → ⊥
+    clash r =
+        let latest : getD (s .last) k never ≡ at (r .0 .taken) = rw (r .1) at (r .2 .latest) in
+        let young : s .clock - r .0 .taken < bound (s .table) (rowAt (s .table) k) = rw (r .1) at (r .2 .young) in
+        omega (arith, not-soon (getD (s .last) k never) (s .clock) (periodOf (rowAt (s .table) k)) (r .0 .taken) late latest, law.bound-period (s .table) ok k h)

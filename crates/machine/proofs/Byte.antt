@@ -7,12 +7,11 @@ use native.Mathlib.Nat.{le-trans}
 use native.Mathlib.Omega.{arith}
 use lib.IntN.{ℤ}
 use lib.ListN.{length}
-use borrow.Author.Tests.{lt-ltb}
 use Rattle.planner.specs.declared.Class.{Class}
 use Rattle.planner.specs.declared.Class.the-variants.{A, B}
 use Rattle.planner.specs.declared.Table.{Table}
 use Rattle.planner.specs.Wire.{sizeOf}
-use Rattle.planner.specs.Rows.{rowsOf, rowAt, largest, total, shares, idle, send, bestSize}
+use Rattle.planner.specs.Rows.{rowsOf, rowAt, largest, total, idle, send, bestSize}
 use Rattle.planner.specs.Bound.{blocking, bound}
 use Rattle.planner.specs.Opening.{IsAccepted}
 use Rattle.planner.proofs.Laws as law
@@ -29,17 +28,15 @@ use Rattle.machine.proofs.OneClass.{Look, mine, other, isMine, next, Al
 use Rattle.machine.proofs.OneClass as one
 use Rattle.machine.proofs.Both.{Line, free, byA, byB, byBest, nextLine, ShiftA, ShiftB}
 use Rattle.machine.proofs.Both as both
-use Rattle.machine.proofs.Invariant.{lookBy, look, lineBy, line, RowFrame, BestFrame, WireFrame, OnTheWire, NoneAfter, KeptBy, Ceiled, Idled, Inv, Holds, look-is, look-next, line-next, b-below, a-below, ha-some, lc-some}
+use Rattle.machine.proofs.Invariant.{lookBy, look, lineBy, line, RowFrame, BestFrame, WireFrame, OnTheWire, NoneAfter, KeptBy, Ceiled, Idled, Inv, Holds, named-owner, look-is, look-next, line-next, b-below, a-below, ha-some, lc-some}
 use Rattle.machine.proofs.Start.{Started}
 
 module _ (t : Table) (ok : IsAccepted t) where
   tokens-up : (c : Class) (now : ℕ) (last : List Instant) → tokens c (suc now) (rowsOf t) last ≤ tokens c now (rowsOf t) last + idle c t
-  unfolding shares
-  tokens-up c now last = omega (arith, tokens-rise c now (rowsOf t) last, law.shares-within t ok c)
+  tokens-up c now last = omega (arith, tokens-rise c now (rowsOf t) last, law.shares-within t ok c, law.shares-sum c t)
 
   tokens-full : (c : Class) (now : ℕ) (last : List Instant) → tokens c now (rowsOf t) last ≤ 1000000 * total c t
-  unfolding total
-  tokens-full c now last = tokens-most c now (rowsOf t) last
+  tokens-full c now last = omega (arith, tokens-most c now (rowsOf t) last, law.total-sum c t)
 
   -- one class over a byte-time, in the machine's own terms
   pub record Class-moved (c : Class) (now : ℕ) (last : List Instant) (cr : ℤ) (q : List Frame) (w : Wire) (u : ℕ) : Type 0 where
@@ -162,12 +159,8 @@ module _ (s : State) (ua ub : ℕ) (i : Inv s ua ub) (f : Frame) (l : ℕ) (w : 
   row-sends A own = rw (w, own) at (i .class-a .sends)
   row-sends B own = rw (w, own) at (i .class-b .sends)
 
-  pub row-is : f .source < length (rowsOf (s .table)) → owner (s .table) f ≡ shaped (rowAt (s .table) (f .source) .class)
-  unfolding owner
-  row-is h = rw (lt-ltb _ _ h) refl
-
 pub ends-in-time : (s : State) (ua ub : ℕ) → Inv s ua ub → (f : Frame) → endedBy (s .wire) ≡ Reported f → f .source < length (rowsOf (s .table)) → suc (s .clock) ≤ f .taken + bound (s .table) (rowAt (s .table) (f .source))
 ends-in-time s ua ub i f e h =
     let (l, w) = ended-frame (s .wire) f e in
-    let r = row-sends s ua ub i f l w (rowAt (s .table) (f .source) .class) (row-is s ua ub i f l w h) in
+    let r = row-sends s ua ub i f l w (rowAt (s .table) (f .source) .class) (named-owner (s .table) f h) in
     omega (arith, r .past, r .some, r .sending)

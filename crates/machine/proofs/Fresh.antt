@@ -9,9 +9,9 @@ use lib.ListN.{length, replicate, length-replicate}
 use Rattle.planner.specs.declared.Class.{Class}
 use Rattle.planner.specs.declared.Class.the-variants.{A, B}
 use Rattle.planner.specs.declared.Table.{Table}
-use Rattle.planner.specs.Rows.{rowsOf, largest, total, idle, send, bestSize}
-use Rattle.planner.specs.Bound.{blocking}
+use Rattle.planner.specs.Rows.{rowsOf, largest, send}
 use Rattle.planner.specs.Opening.{IsAccepted}
+use Rattle.planner.proofs.Laws as law
 use Rattle.machine.specs.State.{Instant, never, fresh}
 use Rattle.machine.proofs.Tokens.{tokens-most}
 use Rattle.machine.proofs.OneClass.{other}
@@ -23,8 +23,7 @@ none-after (suc n) = none-after n
 
 module _ (t : Table) (ok : IsAccepted t) where
   class-kept : (c : Class) → KeptBy c t 0 (replicate (length (rowsOf t)) never) (pos 0) [] other (send c t * largest c t)
-  unfolding total
-  class-kept c = record { head = omega arith; floor = tt; rest = le-refl _; past = tt; sends = tt; arrivals = omega (arith, tokens-most c 0 (rowsOf t) (replicate (length (rowsOf t)) never)); waiting = tt }
+  class-kept c = record { head = omega arith; floor = tt; rest = le-refl _; past = tt; sends = tt; arrivals = omega (arith, tokens-most c 0 (rowsOf t) (replicate (length (rowsOf t)) never), law.total-sum c t); waiting = tt }
 
   pub fresh-kept : Inv (fresh t) (send A t * largest A t) (send B t * largest B t)
   unfolding fresh

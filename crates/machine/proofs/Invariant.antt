@@ -111,6 +111,10 @@ pub row-owner : {c : Class} {t : Table} {last : List Instant} (f : Frame) → Ro
 unfolding owner
 row-owner f r = rw (lt-ltb _ _ (r .names)) (ap shaped (r .class))
 
+pub named-owner : (t : Table) (f : Frame) → f .source < length (rowsOf t) → owner t f ≡ shaped (rowAt t (f .source) .class)
+unfolding owner
+named-owner t f h = rw (lt-ltb _ _ h) refl
+
 pub best-owner : {t : Table} {now : ℕ} (ok : IsAccepted t) (f : Frame) → BestFrame t now f → owner t f ≡ unshaped
 unfolding owner
 best-owner {t} ok f r = rw (le-ltb (f .source) (length (rowsOf t)) (omega (arith, r .mark, law.rows-most t ok))) refl

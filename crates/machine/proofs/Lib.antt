@@ -1,4 +1,4 @@
--- The proof of demand 3, in the paper's order. `Theorem` has the theorem, `Facts` the document's worked numbers.
+-- The proof of demand 3, in the paper's order. `Theorem` has the theorem.
 mod Credit
 mod Tokens
 mod OneClass
@@ -9,10 +9,11 @@ mod Byte
 mod Age
 mod Offers
 mod Soundness
+mod Space
+pub mod FromSound
 mod Fresh
 mod Advances
 mod Conservation
 mod Trace
 mod Lists
 pub mod Theorem
-pub mod Facts

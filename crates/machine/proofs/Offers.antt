@@ -30,30 +30,15 @@ use Rattle.machine.specs.Calls.{tooSoon, early, rowFrame, joined, takeRo
 use Rattle.machine.proofs.Tokens.{tokenOf, weigh, tokens, tokens-fall}
 use Rattle.machine.proofs.OneClass.{Look, All, Kept, frame-joins}
 use Rattle.machine.proofs.Invariant.{look, line, RowFrame, BestFrame, WireFrame, OnTheWire, NoneAfter, KeptBy, Inv}
-use Rattle.machine.proofs.Age.{Young, held-young}
+use Rattle.machine.proofs.Age.{young-a, young-b, young-wire, none-held}
 
 -- ---- an offer that is not early
-not-soon : (l : Instant) (now p k : ℕ) → tooSoon l now p ≡ false → l ≡ at k → p ≤ now - k
-not-soon never now p k e q = let z : _≡_ {A = ℕ} 0 1 = cc in absurd (omega arith)
-not-soon (at j) now p k e q = let same : j ≡ k = cc in omega (arith, ltb-false (now - j) p e)
-
 -- finds its row's token whole
 whole-token : (t : Table) (ok : IsAccepted t) (k now : ℕ) (l : Instant) → k < length (rowsOf t) → tooSoon l now (periodOf (rowAt t k)) ≡ false → tokenOf (rowAt t k) l now ≡ D * sizeOf (rowAt t k)
 whole-token t ok k now never h e = refl
 whole-token t ok k now (at j) h e =
     let long : periodOf (rowAt t k) ≤ now - j = ltb-false (now - j) (periodOf (rowAt t k)) e in
     omega (arith, law.share-covers t ok k h, mul-le-mul-left (shareOf (rowAt t k)) long)
-
-module _ (s : State) (ua ub : ℕ) (i : Inv s ua ub) (k : ℕ) (h : k < length (rowsOf (s .table))) (late : early s k ≡ false) where
-  -- and no frame of the row in the port
-  pub none-held : inQueue k (s .a) + inQueue k (s .b) + sending k (s .wire) ≡ 0
-  none-held = ⊎-elim (λ z. z) (λ p. absurd (clash (held-young s ua ub i k h p))) (eq-zero-or-pos (inQueue k (s .a) + inQueue k (s .b) + sending k (s .wire)))
-    where
-      clash : (f : Frame) × (f .source ≡ k) × Young (s .table) (s .clock) (s .last) f → ⊥
-      clash r =
-          let latest : getD (s .last) k never ≡ at (r .0 .taken) = rw (r .1) at (r .2 .latest) in
-          let young : s .clock - r .0 .taken < bound (s .table) (rowAt (s .table) k) = rw (r .1) at (r .2 .young) in
-          omega (arith, not-soon (getD (s .last) k never) (s .clock) (periodOf (rowAt (s .table) k)) (r .0 .taken) late latest, law.bound-period (s .table) (i .accepted) k h)
 
 -- ---- queues with a frame more
 pub all-more : (P : Frame → Type 0) (q : List Frame) (f : Frame) → All P q → P f → All P (q ++ f ∷ [])
@@ -131,7 +116,7 @@ module _ (s : State) (ua ub : ℕ) (i : Inv s ua ub) (k p : ℕ) (h : k < length
       rw same κ
 
   none : inQueue k (s .a) + inQueue k (s .b) + sending k (s .wire) ≡ 0
-  none = none-held s ua ub i k h late
+  none = none-held s (i .accepted) (young-a s ua ub i) (young-b s ua ub i) (young-wire s ua ub i (s .wire) refl) k h late
 
   new-frame : (c : Class) → rowAt (s .table) k .class ≡ c → RowFrame c (s .table) last′ (rowFrame s k p)
   new-frame c e =

@@ -1,6 +1,6 @@
 -- No clause of "broken" holds of a port that keeps the invariant: no call meets 18.
 use Prim.Native.Nat.{ℕ, zero, suc, _+_, _-_, _*_, _≤_, _<_}
-use mathlib.Core.Bool.{Bool, true, false, _&&_}
+use mathlib.Core.Bool.{Bool, true, false, _&&_, _||_}
 use mathlib.Core.List.{List, [], _∷_}
 use mathlib.Core.Path.{_≡_, refl, sym, _∙_, ap}
 use native.Mathlib.Nat.{le-refl, lt-suc-self, lt-trans}
@@ -12,15 +12,15 @@ use borrow.Author.Tests.{lt-ltb, le-leb, eq-eqb}
 use Rattle.planner.specs.declared.Class.{Class}
 use Rattle.planner.specs.declared.Class.the-variants.{A, B}
 use Rattle.planner.specs.declared.Table.{Table}
-use Rattle.planner.specs.Rows.{rowsOf, rowAt, largest, idle, send}
-use Rattle.planner.specs.Bound.{blocking, bound}
+use Rattle.planner.specs.Rows.{rowsOf, rowAt, bestSize}
+use Rattle.planner.specs.Bound.{bound}
 use Rattle.planner.proofs.Laws as law
 use Rattle.machine.specs.declared.Frame.{Frame}
 use Rattle.machine.specs.declared.Wire.{Wire}
 use Rattle.machine.specs.declared.Wire.the-variants.{Free, Sending}
 use Rattle.machine.specs.State.{Instant, never, at, State}
 use Rattle.machine.specs.Time.{Owner, shaped, unshaped, owner}
-use Rattle.machine.specs.Record.{lastClock, allOf, onSending, between, ofRow, ofBest, ofOwner, notAfter, noneAfter, takenBy, held, upTo, rowOnly, eachRowFrame, isAt, tableSound, clockSound, creditSound, bestSound, framesSound, leftSound, instantsSound, singleSound, latestSound, ageSound, sound}
+use Rattle.machine.specs.Record.{allOf, onSending, between, namesRow, isBest, rowIn, sizeWithin, rowSize, sizeBy, noneAfter, takenBy, held, upTo, rowOnly, eachRowFrame, isAt, tableSound, clockSound, creditSound, bestSound, namesSound, queuesSound, sizesSound, leftSound, framesTaken, rowsTaken, singleSound, latestSound, ageSound, sound}
 use Rattle.machine.proofs.Credit.{Headroom}
 use Rattle.machine.proofs.OneClass.{All}
 use Rattle.machine.proofs.Invariant.{line, RowFrame, BestFrame, WireFrame, OnTheWire, NoneAfter, Inv, ceiling}
@@ -39,13 +39,28 @@ credit-within : (c : ℤ) (u low high : ℕ) → Headroom u c low → u ≤ high
 credit-within (pos n) u low high h top = le-leb n high (omega arith)
 credit-within (negsuc n) u low high h top = le-leb (suc n) low (omega arith)
 
-row-passes : (c : Class) (t : Table) (last : List Instant) (f : Frame) → RowFrame c t last f → ofRow c t f ≡ true
-unfolding ofRow
-row-passes c t last f r = rw (lt-ltb _ _ (r .names), r .class, law.same-self c, le-leb _ _ (r .least), le-leb _ _ (r .most)) refl
+-- a row's frame, test by test
+module _ (c : Class) (t : Table) (last : List Instant) (f : Frame) (r : RowFrame c t last f) where
+  names-row : namesRow t f ≡ true
+  names-row = lt-ltb _ _ (r .names)
 
-best-passes : (t : Table) (now : ℕ) (f : Frame) → BestFrame t now f → ofBest t f ≡ true
-unfolding ofBest
-best-passes t now f r = rw (eq-eqb _ _ (r .mark), le-leb _ _ (r .least), le-leb _ _ (r .most)) refl
+  row-in : rowIn c t f ≡ true
+  row-in = rw (r .class) (law.same-self c)
+
+  row-size : rowSize t f ≡ true
+  row-size = both (le-leb _ _ (r .least)) (le-leb _ _ (r .most))
+
+-- a best-effort frame, test by test
+module _ (t : Table) (now : ℕ) (f : Frame) (r : BestFrame t now f) where
+  is-best : isBest f ≡ true
+  is-best = eq-eqb _ _ (r .mark)
+
+  best-size : sizeWithin (bestSize t) f ≡ true
+  best-size = both (le-leb _ _ (r .least)) (le-leb _ _ (r .most))
+
+either : (x : Bool) {y : Bool} → y ≡ true → (x || y) ≡ true
+either true e = refl
+either false e = e
 
 up-to : (n : ℕ) (ok : ℕ → Bool) → ((k : ℕ) → k < n → ok k ≡ true) → upTo n ok ≡ true
 up-to zero ok each = refl
@@ -80,21 +95,36 @@ module _ (s : State) (ua ub : ℕ) (i : Inv s ua ub) where
   unfolding bestSound
   best-sound = le-leb _ _ (i .few)
 
-  -- the frame on the wire
-  wire-owned : (w : Wire) → OnTheWire (s .table) (s .clock) (s .last) w → onSending (λ f left. ofOwner (owner (s .table) f) (s .table) f) w ≡ true
-  wire-owned Free r = refl
-  wire-owned (Sending f l) r = go (owner (s .table) f) r
-    where
-      go : (o : Owner) → WireFrame o (s .table) (s .clock) (s .last) f l → ofOwner o (s .table) f ≡ true
-      go (shaped c) q = row-passes c (s .table) (s .last) f q
-      go unshaped q = best-passes (s .table) (s .clock) f (q .0)
+  -- what holds of each waiting row's frame, in either queue
+  in-queues : (ok : Class → Frame → Bool) → ((c : Class) (f : Frame) → RowFrame c (s .table) (s .last) f → ok c f ≡ true) → (allOf (ok A) (s .a) && allOf (ok B) (s .b)) ≡ true
+  in-queues ok each = both (all-pass (ok A) (RowFrame A (s .table) (s .last)) (each A) (s .a) (i .rows-a)) (all-pass (ok B) (RowFrame B (s .table) (s .last)) (each B) (s .b) (i .rows-b))
 
-  frames-sound : framesSound s ≡ true
-  unfolding framesSound
-  frames-sound =
-      both
-      (both (all-pass (ofRow A (s .table)) (RowFrame A (s .table) (s .last)) (row-passes A (s .table) (s .last)) (s .a) (i .rows-a)) (all-pass (ofRow B (s .table)) (RowFrame B (s .table) (s .last)) (row-passes B (s .table) (s .last)) (s .b) (i .rows-b)))
-      (both (all-pass (ofBest (s .table)) (BestFrame (s .table) (s .clock)) (best-passes (s .table) (s .clock)) (s .best) (i .best)) (wire-owned (s .wire) (i .wire)))
+  -- and of the frame on the wire, by its owner
+  on-wire : (ok : Owner → Frame → Bool) → ((o : Owner) (f : Frame) (l : ℕ) → WireFrame o (s .table) (s .clock) (s .last) f l → ok o f ≡ true) → (w : Wire) → OnTheWire (s .table) (s .clock) (s .last) w → onSending (λ f left. ok (owner (s .table) f) f) w ≡ true
+  on-wire ok each Free r = refl
+  on-wire ok each (Sending f l) r = each (owner (s .table) f) f l r
+
+  wire-names : (o : Owner) (f : Frame) (l : ℕ) → WireFrame o (s .table) (s .clock) (s .last) f l → (namesRow (s .table) f || isBest f) ≡ true
+  wire-names (shaped c) f l r = rw (names-row c (s .table) (s .last) f r) refl
+  wire-names unshaped f l r = either (namesRow (s .table) f) (is-best (s .table) (s .clock) f (r .0))
+
+  wire-size : (o : Owner) (f : Frame) (l : ℕ) → WireFrame o (s .table) (s .clock) (s .last) f l → sizeBy o (s .table) f ≡ true
+  wire-size (shaped c) f l r = row-size c (s .table) (s .last) f r
+  wire-size unshaped f l r = best-size (s .table) (s .clock) f (r .0)
+
+  names-sound : namesSound s ≡ true
+  unfolding namesSound
+  names-sound = both (in-queues (λ c. namesRow (s .table)) (λ c f r. names-row c (s .table) (s .last) f r)) (on-wire (λ o f. namesRow (s .table) f || isBest f) wire-names (s .wire) (i .wire))
+
+  queues-sound : queuesSound s ≡ true
+  unfolding queuesSound
+  queues-sound = both (in-queues (λ c. rowIn c (s .table)) (λ c f r. row-in c (s .table) (s .last) f r)) (all-pass isBest (BestFrame (s .table) (s .clock)) (is-best (s .table) (s .clock)) (s .best) (i .best))
+
+  sizes-sound : sizesSound s ≡ true
+  unfolding sizesSound
+  sizes-sound =
+      both (in-queues (λ c. rowSize (s .table)) (λ c f r. row-size c (s .table) (s .last) f r))
+      (both (all-pass (sizeWithin (bestSize (s .table))) (BestFrame (s .table) (s .clock)) (best-size (s .table) (s .clock)) (s .best) (i .best)) (on-wire (λ o f. sizeBy o (s .table) f) wire-size (s .wire) (i .wire)))
 
   -- its bytes left and its instant
   sends : (f : Frame) (l : ℕ) → s .wire ≡ Sending f l → (o : Owner) → owner (s .table) f ≡ o → WireFrame o (s .table) (s .clock) (s .last) f l → (1 ≤ l) × (l ≤ f .size) × (f .taken ≤ s .clock)
@@ -119,13 +149,15 @@ module _ (s : State) (ua ub : ℕ) (i : Inv s ua ub) where
   taken-by : (q : List Frame) → All (λ f. f .taken ≤ s .clock) q → allOf (takenBy (s .clock)) q ≡ true
   taken-by q p = all-pass (takenBy (s .clock)) (λ f. f .taken ≤ s .clock) (λ f h. le-leb (f .taken) (s .clock) h) q p
 
-  instants-sound : instantsSound s ≡ true
-  unfolding instantsSound
-  instants-sound =
-      both
-      (both (both (taken-by (s .a) (i .class-a .past)) (taken-by (s .b) (i .class-b .past)))
-      (both (all-pass (takenBy (s .clock)) (BestFrame (s .table) (s .clock)) (λ f r. le-leb (f .taken) (s .clock) (r .past)) (s .best) (i .best)) (wire-taken (s .wire) refl)))
-      (none-after (s .clock) (s .last) (i .none-after))
+  frames-taken : framesTaken s ≡ true
+  unfolding framesTaken
+  frames-taken =
+      both (both (taken-by (s .a) (i .class-a .past)) (taken-by (s .b) (i .class-b .past)))
+      (both (all-pass (takenBy (s .clock)) (BestFrame (s .table) (s .clock)) (λ f r. le-leb (f .taken) (s .clock) (r .past)) (s .best) (i .best)) (wire-taken (s .wire) refl))
+
+  rows-taken : rowsTaken s ≡ true
+  unfolding rowsTaken
+  rows-taken = none-after (s .clock) (s .last) (i .none-after)
 
   single-sound : singleSound s ≡ true
   unfolding singleSound held
@@ -155,4 +187,4 @@ module _ (s : State) (ua ub : ℕ) (i : Inv s ua ub) where
 
   pub is-sound : sound s ≡ true
   unfolding sound
-  is-sound = rw (table-sound, clock-sound, credit-a, credit-b, best-sound, frames-sound, left-sound, instants-sound, single-sound, latest-sound, age-sound) refl
+  is-sound = rw (table-sound, clock-sound, credit-a, credit-b, best-sound, names-sound, queues-sound, sizes-sound, left-sound, frames-taken, rows-taken, single-sound, latest-sound, age-sound) refl

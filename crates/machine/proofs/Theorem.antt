@@ -29,10 +29,10 @@ use Rattle.machine.specs.Record.{lastClock, count, sound}
 use Rattle.machine.specs.Calls.{Call, offer, offerBest, advance, Answer, taken, passed, denied, tooSoon, early, after, answer, Gives, Opened}
 use Rattle.machine.specs.Run.{Event, event, Run, opened, called, clockOf, machine, AsMachine, Happened, now, since, lastTaken, named, reportedBy, reports, Faithful, Served, Demand3, EveryRun}
 use Rattle.machine.proofs.OneClass.{All}
-use Rattle.machine.proofs.Invariant.{BestFrame, Inv, Holds}
-use Rattle.machine.proofs.Byte.{row-is}
+use Rattle.machine.proofs.Invariant.{BestFrame, Inv, Holds, named-owner}
 use Rattle.machine.proofs.Age.{Young, young-a, young-b, young-wire}
 use Rattle.machine.proofs.Soundness.{is-sound}
+use Rattle.machine.proofs.Space.{in-places}
 use Rattle.machine.proofs.Advances.{advances}
 use Rattle.machine.proofs.Conservation.{among, onWire, inPort}
 use Rattle.machine.proofs.Trace.{Step, row-taken, best-taken, advanced, refusal, Trace, start, step, any-step, let-pass}
@@ -63,7 +63,7 @@ module _ (s : State) (ua ub : ℕ) (i : Inv s ua ub) (row inst size : ℕ) (in-u
     where
       go : (b : Bool) → named row inst size f ≡ b → InTime
       go true q =
-          let own = row-is s ua ub i f l e (rw (named-is row inst size f q .0) in-use) in
+          let own = named-owner (s .table) f (rw (named-is row inst size f q .0) in-use) in
           by-frame f q (rw own at (young-wire s ua ub i (Sending f l) e))
       go false q = let z : count (named row inst size f) ≡ 0 = ap count q in absurd (omega arith)
 
@@ -172,22 +172,22 @@ module _ (t : Table) (ok : IsAccepted t) where
 
 -- ---- a run is a trace
 opened-accepted : {t : Table} {es : List Event} {p : Port} → Run t es p → IsAccepted t
-opened-accepted {t} (opened o) = law.accepted-if t (o .accepted)
+opened-accepted {t} (opened o e) = law.accepted-if t e
 opened-accepted (called r g) = opened-accepted r
 
 traced : {t : Table} {es : List Event} {p : Port} → Run t es p → Trace t es (view p)
-traced {t} (opened o) = rw (o .port) start
+traced {t} (opened o e) = rw (o .port) start
 traced {t} (called {p = p} {c = c} r g) =
     let w = traced r in
     let a = along t (opened-accepted r) w in
     rw (g .port, g .answer) (step w (any-step (view p) (is-sound (view p) (a .holds .ua) (a .holds .ub) (a .holds .inv)) c))
 
 on-machine : {t : Table} {es : List Event} {p : Port} → Run t es p → view p ≡ machine t es
-on-machine {t} (opened o) = o .port
+on-machine {t} (opened o e) = o .port
 on-machine {t} (called {c = c} r g) = g .port ∙ ap (λ (s : State). after s c) (on-machine r)
 
 as-machine : {t : Table} {es : List Event} {p : Port} → Run t es p → AsMachine t es
-as-machine {t} (opened o) = tt
+as-machine {t} (opened o e) = tt
 as-machine {t} (called {c = c} r g) = (g .answer ∙ ap (λ (s : State). answer s c) (on-machine r), as-machine r)
 
 pub every-run : EveryRun
@@ -197,6 +197,7 @@ every-run t es p r =
     record {
       faithful = record { answers = as-machine r; clock = along t ok w .clock; port = on-machine r };
       served = λ row payload before x. served t ok w row payload before x;
+      places = λ c. in-places (view p) (along t ok w .holds .ua) (along t ok w .holds .ub) (along t ok w .holds .inv) c;
       unbroken = λ c place before x. unbroken t ok w c place before x;
       space = λ row payload a before x h g e. space t ok w row payload a before x h g e;
     }

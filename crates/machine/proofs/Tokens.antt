@@ -10,6 +10,7 @@ use Rattle.planner.specs.declared.Class.{Class}
 use Rattle.planner.specs.declared.Row.{Row}
 use Rattle.planner.specs.Wire.{D, sizeOf, shareOf}
 use Rattle.planner.specs.Rows.{noRow, sameClass, inClass, sumOver}
+use Rattle.planner.proofs.Laws as law
 use Rattle.machine.specs.State.{Instant, never, at}
 
 abbrev pub tokenOf : Row → Instant → ℕ → ℕ
@@ -64,17 +65,15 @@ weigh-times c r n = go (inClass c r)
 
 module _ (c : Class) (now : ℕ) where
   pub tokens-most : (rs : List Row) (ls : List Instant) → tokens c now rs ls ≤ D * sumOver c sizeOf rs
-  unfolding sumOver
   tokens-most [] ls = omega arith
-  tokens-most (r ∷ rs) [] = omega (arith, tokens-most rs [], weigh-times c r (sizeOf r))
-  tokens-most (r ∷ rs) (l ∷ ls) = omega (arith, tokens-most rs ls, weigh-most c r (token-most r l now), weigh-times c r (sizeOf r))
+  tokens-most (r ∷ rs) [] = omega (arith, tokens-most rs [], weigh-times c r (sizeOf r), law.sum-more c sizeOf r rs)
+  tokens-most (r ∷ rs) (l ∷ ls) = omega (arith, tokens-most rs ls, weigh-most c r (token-most r l now), weigh-times c r (sizeOf r), law.sum-more c sizeOf r rs)
 
   pub tokens-rise : (rs : List Row) (ls : List Instant) → tokens c (suc now) rs ls ≤ tokens c now rs ls + sumOver c shareOf rs
-  unfolding sumOver
   tokens-rise [] ls = omega arith
-  tokens-rise (r ∷ rs) [] = omega (arith, tokens-rise rs [])
+  tokens-rise (r ∷ rs) [] = omega (arith, tokens-rise rs [], law.sum-more c shareOf r rs)
   tokens-rise (r ∷ rs) (l ∷ ls) =
-      omega (arith, tokens-rise rs ls, weigh-most c r (token-rises r l now), weigh-sum c r (tokenOf r l now) (shareOf r))
+      omega (arith, tokens-rise rs ls, weigh-most c r (token-rises r l now), weigh-sum c r (tokenOf r l now) (shareOf r), law.sum-more c shareOf r rs)
 
   -- a taken frame: the row's token was whole, and is 0
   pub tokens-fall : (rs : List Row) (ls : List Instant) (k : ℕ) → k < length rs → length ls ≡ length rs → tokenOf (getD rs k noRow) (getD ls k never) now ≡ D * sizeOf (getD rs k noRow) → tokens c now rs (set ls k (at now)) + weigh c (getD rs k noRow) (D * sizeOf (getD rs k noRow)) ≡ tokens c now rs ls

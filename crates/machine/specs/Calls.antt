@@ -1,17 +1,16 @@
 -- The three calls of a list: what each answers, and the port that it gives.
 use Prim.Native.Nat.{ℕ, _+_, _-_}
-use mathlib.Core.Bool.{Bool, true, false, not}
-use mathlib.Core.List.{List, [], _∷_, _++_}
+use mathlib.Core.Bool.{Bool, false, not}
+use mathlib.Core.List.{[], _∷_, _++_}
 use mathlib.Core.Path.{_≡_}
 use lib.Dec.{leb, ltb}
 use lib.ListN.{length, getD, set}
 use Rattle.planner.specs.declared.Class.{Class}
 use Rattle.planner.specs.declared.Class.the-variants.{A, B}
-use Rattle.planner.specs.declared.Row.{Row}
 use Rattle.planner.specs.declared.Table.{Table}
 use Rattle.planner.specs.Wire.{wireSize, sizeFor, periodOf}
 use Rattle.planner.specs.Rows.{rowsOf, rowAt}
-use Rattle.planner.specs.Opening.{Outcome, accepted, refused, unless, first, opening}
+use Rattle.planner.specs.Opening.{Outcome, accepted, refused, outcomeOf, unless, first, opening}
 use Rattle.machine.specs.declared.Frame.{Frame}
 use Rattle.machine.specs.declared.Ended.{Ended}
 use Rattle.machine.specs.declared.Denial.{Denial}
@@ -21,6 +20,9 @@ use Rattle.machine.specs.declared.Offer.the-variants as offers
 use Rattle.machine.specs.declared.Advance.{Advance}
 use Rattle.machine.specs.declared.Advance.the-variants as advances
 use Rattle.machine.specs.declared.Port.{Port}
+use Rattle.machine.specs.declared.AfterOpening.{AfterOpening}
+use Rattle.machine.specs.declared.AfterOffer.{AfterOffer}
+use Rattle.machine.specs.declared.AfterAdvance.{AfterAdvance}
 use Rattle.machine.specs.State.{Instant, never, at, State, fresh, view}
 use Rattle.machine.specs.Time.{progress}
 use Rattle.machine.specs.Record.{lastClock, bestMark, sound}
@@ -119,7 +121,8 @@ abbrev pub advanceAnswer : Advance → Answer
 advanceAnswer (advances.Passed n e) = passed n e
 advanceAnswer (advances.Refused d) = denied (numberOf d) 0
 
--- What a call gives: the machine's answer, the machine's port, and at a refusal the record as it was, every place.
+-- What a call gives: the machine's answer, the machine's port, and at a refusal the record as it was, every place. Where a call is not refused the places that
+-- belong to no part are free: a queue's places from its count on, and the instants of numbers that are no row. They may hold anything, and no call reads them.
 abbrev pub Keeps : Answer → Port → Port → Type 0
 Keeps taken p q = Unit {0}
 Keeps (passed n e) p q = Unit {0}
@@ -130,7 +133,17 @@ pub record Gives (p : Port) (c : Call) (a : Answer) (q : Port) : Type 0 where
   pub port : view q ≡ after (view p) c
   pub kept : Keeps a p q
 
--- Opening an accepted table gives the fresh port.
-pub record Opened (t : Table) (p : Port) : Type 0 where
-  pub accepted : opening t ≡ accepted
-  pub port : view p ≡ fresh t
+-- The promises of the calls.
+abbrev pub Offered : Port → ℕ → ℕ → AfterOffer → Type 0
+Offered p k x r = Gives p (offer k x) (offerAnswer (r .answer)) (r .port)
+
+abbrev pub OfferedBest : Port → ℕ → AfterOffer → Type 0
+OfferedBest p x r = Gives p (offerBest x) (offerAnswer (r .answer)) (r .port)
+
+abbrev pub Advanced : Port → ℕ → AfterAdvance → Type 0
+Advanced p n r = Gives p (advance n) (advanceAnswer (r .answer)) (r .port)
+
+-- Opening: the planner's verdict, and the fresh port of the table. At a refusal the port is handed back all the same; its table is not accepted, so every call on it answers 18.
+pub record Opened (t : Table) (r : AfterOpening) : Type 0 where
+  pub verdict : outcomeOf (r .verdict) ≡ opening t
+  pub port : view (r .port) ≡ fresh t

@@ -4,4 +4,3 @@ pub mod Time
 pub mod Record
 pub mod Calls
 pub mod Run
-pub mod Facts

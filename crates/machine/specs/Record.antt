@@ -1,6 +1,6 @@
 -- When a record is broken: document 01's clauses, each with a name, stated as what a sound record has.
 use Prim.Native.Nat.{ℕ, zero, suc, _+_, _-_, _*_}
-use mathlib.Core.Bool.{Bool, true, false, not, cond, _&&_}
+use mathlib.Core.Bool.{Bool, true, false, _&&_, _||_}
 use mathlib.Core.List.{List, [], _∷_}
 use lib.IntN.{ℤ, pos, negsuc}
 use lib.Dec.{leb, ltb, eqb}
@@ -15,7 +15,7 @@ use Rattle.planner.specs.Opening.{Outcome, accepted, refused, opening}
 use Rattle.machine.specs.declared.Frame.{Frame}
 use Rattle.machine.specs.declared.Wire.{Wire}
 use Rattle.machine.specs.declared.Wire.the-variants.{Free, Sending}
-use Rattle.machine.specs.State.{Instant, never, at, State, credit, queue}
+use Rattle.machine.specs.State.{Instant, never, at, State, credit}
 use Rattle.machine.specs.Time.{Owner, shaped, unshaped, owner}
 
 -- The clock's last value.
@@ -59,27 +59,52 @@ creditSound c s = between (send c (s .table) * largest c (s .table)) (idle c (s 
 unfoldable pub bestSound : State → Bool
 bestSound s = leb (length (s .best)) 16
 
--- A frame names a row of the table, is in the right queue and has a size from 84 to its row's C (best effort: LC).
-unfoldable pub ofRow : Class → Table → Frame → Bool
-ofRow c t f = (ltb (f .source) (length (rowsOf t)) && inClass c (rowAt t (f .source))) && (leb 84 (f .size) && leb (f .size) (sizeOf (rowAt t (f .source))))
+-- A frame names a row of the table. The frame on the wire names a row or bears the best-effort mark.
+abbrev pub namesRow : Table → Frame → Bool
+namesRow t f = ltb (f .source) (length (rowsOf t))
 
-unfoldable pub ofBest : Table → Frame → Bool
-ofBest t f = eqb (f .source) bestMark && (leb 84 (f .size) && leb (f .size) (bestSize t))
+abbrev pub isBest : Frame → Bool
+isBest f = eqb (f .source) bestMark
 
-abbrev pub ofOwner : Owner → Table → Frame → Bool
-ofOwner (shaped c) t f = ofRow c t f
-ofOwner unshaped t f = ofBest t f
+unfoldable pub namesSound : State → Bool
+namesSound s = (allOf (namesRow (s .table)) (s .a) && allOf (namesRow (s .table)) (s .b)) && onSending (λ f left. namesRow (s .table) f || isBest f) (s .wire)
 
-unfoldable pub framesSound : State → Bool
-framesSound s =
-    (allOf (ofRow A (s .table)) (s .a) && allOf (ofRow B (s .table)) (s .b))
-    && (allOf (ofBest (s .table)) (s .best) && onSending (λ f left. ofOwner (owner (s .table) f) (s .table) f) (s .wire))
+-- A frame is in the right queue: a row's in its class's, one with the mark in best effort's.
+abbrev pub rowIn : Class → Table → Frame → Bool
+rowIn c t f = inClass c (rowAt t (f .source))
+
+unfoldable pub queuesSound : State → Bool
+queuesSound s = (allOf (rowIn A (s .table)) (s .a) && allOf (rowIn B (s .table)) (s .b)) && allOf isBest (s .best)
+
+-- A frame has a size from 84 to its row's C (best effort: LC).
+abbrev pub sizeWithin : ℕ → Frame → Bool
+sizeWithin most f = leb 84 (f .size) && leb (f .size) most
+
+abbrev pub rowSize : Table → Frame → Bool
+rowSize t f = sizeWithin (sizeOf (rowAt t (f .source))) f
+
+abbrev pub sizeBy : Owner → Table → Frame → Bool
+sizeBy (shaped c) t f = rowSize t f
+sizeBy unshaped t f = sizeWithin (bestSize t) f
+
+unfoldable pub sizesSound : State → Bool
+sizesSound s =
+    (allOf (rowSize (s .table)) (s .a) && allOf (rowSize (s .table)) (s .b))
+    && (allOf (sizeWithin (bestSize (s .table))) (s .best) && onSending (λ f left. sizeBy (owner (s .table) f) (s .table) f) (s .wire))
 
 -- Bytes left are 1 to the size.
 unfoldable pub leftSound : State → Bool
 leftSound s = onSending (λ f left. leb 1 left && leb left (f .size)) (s .wire)
 
--- No instant of a frame or of a row in use is after the clock.
+-- No instant of a frame is after the clock.
+abbrev pub takenBy : ℕ → Frame → Bool
+takenBy now f = leb (f .taken) now
+
+unfoldable pub framesTaken : State → Bool
+framesTaken s =
+    (allOf (takenBy (s .clock)) (s .a) && allOf (takenBy (s .clock)) (s .b)) && (allOf (takenBy (s .clock)) (s .best) && onSending (λ f left. takenBy (s .clock) f) (s .wire))
+
+-- No instant of a row in use is after the clock.
 abbrev pub notAfter : ℕ → Instant → Bool
 notAfter now never = true
 notAfter now (at k) = leb k now
@@ -88,13 +113,8 @@ abbrev pub noneAfter : ℕ → List Instant → Bool
 noneAfter now [] = true
 noneAfter now (i ∷ is) = notAfter now i && noneAfter now is
 
-abbrev pub takenBy : ℕ → Frame → Bool
-takenBy now f = leb (f .taken) now
-
-unfoldable pub instantsSound : State → Bool
-instantsSound s =
-    ((allOf (takenBy (s .clock)) (s .a) && allOf (takenBy (s .clock)) (s .b)) && (allOf (takenBy (s .clock)) (s .best) && onSending (λ f left. takenBy (s .clock) f) (s .wire)))
-    && noneAfter (s .clock) (s .last)
+unfoldable pub rowsTaken : State → Bool
+rowsTaken s = noneAfter (s .clock) (s .last)
 
 -- How many frames of a row are in the port: waiting, or on the wire.
 abbrev pub count : Bool → ℕ
@@ -153,9 +173,12 @@ sound s =
     ∷ creditSound A s
     ∷ creditSound B s
     ∷ bestSound s
-    ∷ framesSound s
+    ∷ namesSound s
+    ∷ queuesSound s
+    ∷ sizesSound s
     ∷ leftSound s
-    ∷ instantsSound s
+    ∷ framesTaken s
+    ∷ rowsTaken s
     ∷ singleSound s
     ∷ latestSound s
     ∷ ageSound s

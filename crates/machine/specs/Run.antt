@@ -5,15 +5,17 @@ use mathlib.Core.List.{List, [], _∷_}
 use mathlib.Core.Path.{_≡_}
 use lib.Dec.{eqb}
 use lib.ListN.{length}
+use Rattle.planner.specs.declared.Class.{Class}
 use Rattle.planner.specs.declared.Table.{Table}
 use Rattle.planner.specs.Wire.{sizeFor, periodOf}
 use Rattle.planner.specs.Rows.{rowsOf, rowAt}
 use Rattle.planner.specs.Bound.{bound}
+use Rattle.planner.specs.Opening.{accepted, opening}
 use Rattle.machine.specs.declared.Frame.{Frame}
-use Rattle.machine.specs.declared.Ended.{Ended}
 use Rattle.machine.specs.declared.Ended.the-variants.{Reported, Nothing}
 use Rattle.machine.specs.declared.Port.{Port}
-use Rattle.machine.specs.State.{Instant, never, at, State, fresh, view}
+use Rattle.machine.specs.declared.AfterOpening.{AfterOpening}
+use Rattle.machine.specs.State.{Instant, never, at, State, queue, fresh, view}
 use Rattle.machine.specs.Record.{count}
 use Rattle.machine.specs.Calls.{Call, offer, offerBest, advance, Answer, taken, passed, denied, tooSoon, after, answer, Gives, Opened}
 
@@ -23,7 +25,7 @@ pub data Event : Type 0 where
 
 -- A run: a list of calls with the answers they gave, tied from record to record by what the calls promise, from a record that opening gave for an accepted table.
 pub data Run (t : Table) : List Event → Port → Type 0 where
-  opened : {p : Port} → Opened t p → Run t [] p
+  opened : {r : AfterOpening} → Opened t r → opening t ≡ accepted → Run t [] (r .port)
   called : {es : List Event} {p q : Port} {c : Call} {a : Answer} → Run t es p → Gives p c a q → Run t (event c a ∷ es) q
 
 -- The clock stands at the sum of the counts passed that the list's advances have given; a refused call adds nothing.
@@ -98,6 +100,8 @@ pub record Demand3 (t : Table) (es : List Event) (p : Port) : Type 0 where
   pub faithful : Faithful t es p
   -- every taken frame is served
   pub served : (row payload : ℕ) (before : List Event) → Happened (event (offer row payload) taken) before es → Served t es row payload before
+  -- no more frames of a class wait than the 32 places of its queue
+  pub places : (c : Class) → length (queue c (view p)) ≤ 32
   -- no call meets 18
   pub unbroken : (c : Call) (place : ℕ) (before : List Event) → Happened (event c (denied 18 place)) before es → ⊥
   -- every offer to a row which 11, 12 and 13, judged by their rules, let pass is taken

@@ -64,7 +64,7 @@ waiting n places = take n places ++ replicate (n - length places) noFrame
 abbrev pub instantOf : Last → Instant
 instantOf l = cond (l .known) (at (l .taken)) never
 
--- A port record by its parts: queue and row places not in use belong to none of them.
+-- A port record by its parts: queue places and instants not in use belong to none of them. The table stands whole.
 unfoldable pub view : Port → State
 view p =
     record {

@@ -73,14 +73,20 @@ pub enum Advance {
     Refused(Denial),
 }
 
+// What opening gives back: the planner's verdict, and the fresh port.
+pub struct AfterOpening {
+    pub verdict: planner::Verdict,
+    pub port: Port,
+}
+
 // What an offer gives back.
-pub struct Offered {
+pub struct AfterOffer {
     pub answer: Offer,
     pub port: Port,
 }
 
 // What an advance gives back.
-pub struct Advanced {
+pub struct AfterAdvance {
     pub answer: Advance,
     pub port: Port,
 }

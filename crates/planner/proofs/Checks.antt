@@ -14,20 +14,21 @@ use Rattle.planner.specs.declared.Found.the-variants.{At, Nothing}
 use Rattle.planner.specs.Rows.{rowsOf}
 use Rattle.planner.specs.Opening.{Outcome, accepted, refused, unless, unlessAt, first, firstFrom, Every, countOk, headerOk, rowOk, usedOk, slopesOk, sharesOk, timely, rangeChecks, ranged, openingChecks, opening}
 
-never : {n p : ℕ} {X : Type 0} → refused n p ≡ accepted → X
+-- a refusal is no acceptance
+pub never : {n p : ℕ} {X : Type 0} → refused n p ≡ accepted → X
 never e = let z : _≡_ {A = ℕ} 0 1 = cc in absurd (omega arith)
 
 -- the first to refuse is none: each accepts
-abbrev Accept : List Outcome → Type 0
+abbrev pub Accept : List Outcome → Type 0
 Accept [] = Unit {0}
 Accept (x ∷ xs) = (x ≡ accepted) × Accept xs
 
-all-accept : (xs : List Outcome) → first xs ≡ accepted → Accept xs
+pub all-accept : (xs : List Outcome) → first xs ≡ accepted → Accept xs
 all-accept [] e = tt
 all-accept (accepted ∷ xs) e = (refl, all-accept xs e)
 all-accept (refused n p ∷ xs) e = never e
 
-unless-passes : (b : Bool) (n p : ℕ) → unless b n p ≡ accepted → b ≡ true
+pub unless-passes : (b : Bool) (n p : ℕ) → unless b n p ≡ accepted → b ≡ true
 unless-passes true n p e = refl
 unless-passes false n p e = never e
 

@@ -20,8 +20,9 @@ use Rattle.planner.specs.Bound.{blocking, boundIn, bound}
 use Rattle.planner.specs.Opening.{accepted, Every, InRange, IsAccepted, countOk, headerOk, rowOk, usedOk, slopesOk, sharesOk, timely, firstFrom, ranged, opening}
 use Rattle.planner.proofs.Division.{ceil-covers, ceil-most}
 use Rattle.planner.proofs.Members.{sum-at, max-at}
-use Rattle.planner.proofs.Checks.{and-true, opening-passes, count-limits, header-limits, slope-limits}
--- laws of other modules that the crates above may cite too: of classes, of a table's places, and of its list of bounds
+use Rattle.planner.proofs.Checks.{InRanges, ranged-passes, opening-passes, count-limits, header-limits, slope-limits}
+-- laws of other modules that the crates above may cite too: of checks in their order, of classes, of a table's places, and of its list of bounds
+pub use Rattle.planner.proofs.Checks.{never, Accept, all-accept, unless-passes, and-true}
 pub use Rattle.planner.proofs.Members.{same-self, same-is}
 pub use Rattle.planner.proofs.Shape.{places, rows-length}
 pub use Rattle.planner.proofs.Limits.{row-at, bounds-at}
@@ -58,6 +59,23 @@ unfolding sizeFor sizeOf
 frame-within r p h = wire-grows p (r .payload) h
 
 -- ---- sums over a class
+pub sum-none : (c : Class) (f : Row → ℕ) → sumOver c f [] ≡ 0
+unfolding sumOver
+sum-none c f = refl
+
+pub sum-more : (c : Class) (f : Row → ℕ) (r : Row) (rs : List Row) → sumOver c f (r ∷ rs) ≡ part c f r + sumOver c f rs
+unfolding sumOver
+sum-more c f r rs = refl
+
+-- the sums of a table's classes
+pub total-sum : (c : Class) (t : Table) → total c t ≡ sumOver c sizeOf (rowsOf t)
+unfolding total
+total-sum c t = refl
+
+pub shares-sum : (c : Class) (t : Table) → shares c t ≡ sumOver c shareOf (rowsOf t)
+unfolding shares
+shares-sum c t = refl
+
 pub sum-grows : (c : Class) {f g : Row → ℕ} → ((r : Row) → f r ≤ g r) → (rs : List Row) → sumOver c f rs ≤ sumOver c g rs
 unfolding sumOver
 sum-grows c {f} {g} h [] = le-refl 0
@@ -102,6 +120,27 @@ in-range r e =
     let v = and-true (leb 1 (r .deadline)) (leb (r .deadline) (periodOf r)) (p .1) in
     record { payload = leb-true _ _ (q .0); shortest = leb-true _ _ (u .0); longest = leb-true _ _ (u .1); positive = leb-true _ _ (v .0); deadline = leb-true _ _ (v .1) }
 
+-- what rules 3 and 5 say of a table, in numbers
+pub record Ranges (t : Table) : Type 0 where
+  pub some : 1 ≤ t .count
+  pub most : t .count ≤ 32
+  pub slope : (c : Class) → idle c t ≤ 750000
+  pub best : t .payload ≤ 1500
+  pub rows : Every InRange (rowsOf t)
+
+ranges-of : (t : Table) → InRanges t → Ranges t
+ranges-of t p =
+    let n = count-limits t (p .count) in
+    let h = header-limits t (p .header) in
+    record { some = n .0; most = n .1; slope = slope-of (h .0) (h .1); best = h .2; rows = every-map (λ r. rowOk r ≡ true) InRange in-range (rowsOf t) (p .rows) }
+  where
+    slope-of : t .idlea ≤ 750000 → t .idleb ≤ 750000 → (c : Class) → idle c t ≤ 750000
+    slope-of a b A = a
+    slope-of a b B = b
+
+pub ranged-if : (t : Table) → ranged t ≡ accepted → Ranges t
+ranged-if t e = ranges-of t (ranged-passes t e)
+
 used-iff : (c : Class) (t : Table) → usedOk c t ≡ true → (idle c t ≡ 0) ↔ (members c t ≡ 0)
 unfolding usedOk
 used-iff c t e = (there, back)
@@ -123,25 +162,20 @@ fair-at c t e = leb-true (shares c t) (idle c t) e
 pub accepted-if : (t : Table) → opening t ≡ accepted → IsAccepted t
 accepted-if t e =
     let p = opening-passes t e in
-    let n = count-limits t (p .ranges .count) in
-    let h = header-limits t (p .ranges .header) in
+    let n = ranges-of t (p .ranges) in
     let s = slope-limits t (p .slopes) in
     record {
-      some = n .0;
-      most = n .1;
-      slope = slope-of (h .0) (h .1);
-      best = h .2;
-      ranges = every-map (λ r. rowOk r ≡ true) InRange in-range (rowsOf t) (p .ranges .rows);
+      some = n .some;
+      most = n .most;
+      slope = n .slope;
+      best = n .best;
+      ranges = n .rows;
       used = used-of (s .0) (s .1);
       slopes = s .2;
       fair = fair-of (p .shares-a) (p .shares-b);
       timely = every-map (λ r. timely t r ≡ true) (λ r. bound t r ≤ r .deadline) (timely-at t) (rowsOf t) (p .timely);
     }
   where
-    slope-of : t .idlea ≤ 750000 → t .idleb ≤ 750000 → (c : Class) → idle c t ≤ 750000
-    slope-of a b A = a
-    slope-of a b B = b
-
     used-of : usedOk A t ≡ true → usedOk B t ≡ true → (c : Class) → (idle c t ≡ 0) ↔ (members c t ≡ 0)
     used-of a b A = used-iff A t a
     used-of a b B = used-iff B t b
@@ -159,6 +193,19 @@ row-passes : (r : Row) → InRange r → rowOk r ≡ true
 unfolding rowOk
 row-passes r e = rw (le-leb _ _ (e .payload), le-leb _ _ (e .shortest), le-leb _ _ (e .longest), le-leb _ _ (e .positive), le-leb _ _ (e .deadline)) refl
 
+pub ranged-only-if : (t : Table) → Ranges t → ranged t ≡ accepted
+unfolding ranged countOk headerOk
+ranged-only-if t ok =
+    rw (
+      le-leb 1 (t .count) (ok .some),
+      le-leb (t .count) 32 (ok .most),
+      le-leb (t .idlea) 750000 (ok .slope A),
+      le-leb (t .idleb) 750000 (ok .slope B),
+      le-leb (t .payload) 1500 (ok .best),
+      pass-all rowOk 0 (rowsOf t) (every-map InRange (λ r. rowOk r ≡ true) row-passes (rowsOf t) (ok .rows)),
+    )
+    refl
+
 used-passes : (c : Class) (t : Table) → (idle c t ≡ 0) ↔ (members c t ≡ 0) → usedOk c t ≡ true
 unfolding usedOk
 used-passes c t e =
@@ -168,15 +215,10 @@ used-passes c t e =
     (eq-zero-or-pos (idle c t))
 
 pub accepted-only-if : (t : Table) → IsAccepted t → opening t ≡ accepted
-unfolding opening ranged countOk headerOk slopesOk sharesOk timely
+unfolding opening slopesOk sharesOk timely
 accepted-only-if t ok =
     rw (
-      le-leb 1 (t .count) (ok .some),
-      le-leb (t .count) 32 (ok .most),
-      le-leb (t .idlea) 750000 (ok .slope A),
-      le-leb (t .idleb) 750000 (ok .slope B),
-      le-leb (t .payload) 1500 (ok .best),
-      pass-all rowOk 0 (rowsOf t) (every-map InRange (λ r. rowOk r ≡ true) row-passes (rowsOf t) (ok .ranges)),
+      ranged-only-if t (record { some = ok .some; most = ok .most; slope = ok .slope; best = ok .best; rows = ok .ranges }),
       used-passes A t (ok .used A),
       used-passes B t (ok .used B),
       le-leb (t .idlea + t .idleb) 750000 (ok .slopes),

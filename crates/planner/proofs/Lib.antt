@@ -6,7 +6,7 @@ mod Left
 mod Members
 mod Fill
 mod Limits
+mod Worked
 mod Checks
 mod Verdicts
 pub mod Laws
-pub mod Facts

@@ -5,4 +5,3 @@ pub mod Bound
 pub mod Opening
 pub mod Plan
 pub mod Steps
-pub mod Specimen

@@ -1,30 +1,15 @@
 // The figures of a class: its rows taken together.
 ghost use mathlib.Core.Path.{_≡_};
 ghost use Prim.Native.Nat.{_≤_};
-ghost use Rattle.planner.specs.Rows.{sameClass};
 ghost use Rattle.planner.specs.Steps.{figuresOf, joined, Small, Grown};
 use crate::Class;
 use crate::Figures;
 use crate::Row;
 use crate::Table;
 use crate::quotient::larger;
+use crate::wire::same_class;
 use crate::wire::share;
 use crate::wire::size;
-
-pub fn same_class(a: Class, b: Class) -> bool
-    ensures { λ r. ⌜ r ≡ sameClass a b ⌝ }
-{
-    match a {
-        Class::A => match b {
-            Class::A => true,
-            Class::B => false,
-        },
-        Class::B => match b {
-            Class::A => false,
-            Class::B => true,
-        },
-    }
-}
 
 // The figures with one row more, if it is in the class.
 fn with_row(f: Figures, class: Class, row: Row) -> Figures

@@ -1,7 +1,9 @@
 // Wire sizes, periods and shares.
 ghost use mathlib.Core.Path.{_≡_};
 ghost use Prim.Native.Nat.{_≤_};
+ghost use Rattle.planner.specs.Rows.{sameClass};
 ghost use Rattle.planner.specs.Wire.{wireSize, sizeFor, sizeOf, periodOf, shareOf};
+use crate::Class;
 use crate::Row;
 use crate::quotient::ceil_div;
 
@@ -55,4 +57,20 @@ pub fn share(row: Row) -> u64
         return 0;
     }
     ceil_div(D * size(row), p)
+}
+
+// Whether two classes are the same.
+pub fn same_class(a: Class, b: Class) -> bool
+    ensures { λ r. ⌜ r ≡ sameClass a b ⌝ }
+{
+    match a {
+        Class::A => match b {
+            Class::A => true,
+            Class::B => false,
+        },
+        Class::B => match b {
+            Class::A => false,
+            Class::B => true,
+        },
+    }
 }

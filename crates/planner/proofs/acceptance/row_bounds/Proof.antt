@@ -8,7 +8,8 @@ use Rattle.planner.specs.Rows.{noRow, rowsOf}
 use Rattle.planner.specs.Bound.{bound, bounds}
 use Rattle.planner.proofs.Shape.{places, rows-length}
 use Rattle.planner.proofs.Fill.{filled, fill-next, fill-end}
-use Rattle.planner.proofs.Limits.{row-at, bound-ready, bound-worked}
+use Rattle.planner.proofs.Limits.{row-at}
+use Rattle.planner.proofs.Worked.{bound-ready, bound-worked}
 use Rattle.planner.proofs.acceptance.row_bounds.Statement.{statement}
 use Rattle.planner.proofs.acceptance.row_bounds.Tie as tie
 

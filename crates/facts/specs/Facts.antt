@@ -1,13 +1,17 @@
--- Document 01's facts (d), (e) and (g) about the specimen's port.
-use Prim.Native.Nat.{ℕ}
-use mathlib.Core.List.{List, [], _∷_}
+-- One table of facts: what the definitions themselves give for the specimen.
+use mathlib.Core.List.{List, [], _∷_, map}
 use mathlib.Core.Path.{_≡_}
 use lib.IntN.{pos, negsuc}
-use Rattle.planner.specs.Specimen.{specimen}
-use Rattle.machine.specs.declared.Frame.{Frame}
-use Rattle.machine.specs.declared.Ended.the-variants.{Reported, Nothing}
+use lib.ListN.{replicate}
+use Rattle.planner.specs.declared.Class.the-variants.{A, B}
+use Rattle.planner.specs.Wire.{wireSize, sizeOf, shareOf}
+use Rattle.planner.specs.Rows.{rowsOf}
+use Rattle.planner.specs.Bound.{blocking, bounds}
+use Rattle.planner.specs.Opening.{accepted, refused, opening}
+use Rattle.machine.specs.declared.Ended.the-variants.{Reported}
 use Rattle.machine.specs.State.{State, fresh}
 use Rattle.machine.specs.Calls.{Call, offer, offerBest, advance, taken, passed, denied, after, answer}
+use Rattle.facts.specs.Specimen.{specimen, specimenWith}
 
 -- The port after calls, the first one first.
 abbrev pub played : State → List Call → State
@@ -29,7 +33,19 @@ inE = offer 0 58 ∷ advance 5000 ∷ offer 1 258 ∷ []
 abbrev pub inG : List Call
 inG = offer 0 58 ∷ advance 100 ∷ advance 15524 ∷ []
 
-pub record MachineFacts : Type 0 where
+pub record Facts : Type 0 where
+  -- (a) the three bounds; HA and HB; the sheet's wire sizes
+  pub a : bounds specimen ≡ 3742 ∷ 3142 ∷ 4856 ∷ replicate 29 0
+  pub a-blocking : blocking A specimen ≡ 1542
+  pub b-blocking : blocking B specimen ≡ 2356
+  pub a-sizes : map sizeOf (rowsOf specimen) ≡ 100 ∷ 300 ∷ 500 ∷ []
+  pub a-accepts : opening specimen ≡ accepted
+  -- (b) shares
+  pub b : map shareOf (rowsOf specimen) ≡ 6400 ∷ 19200 ∷ 16000 ∷ []
+  -- (c) payload 42 gives 84, 43 gives 85, 1500 gives 1542
+  pub c-42 : wireSize 42 ≡ 84
+  pub c-43 : wireSize 43 ≡ 85
+  pub c-1500 : wireSize 1500 ≡ 1542
   pub d-first : answer (port inD) (advance 5000) ≡ passed 1541 (Reported (record { source = 32; size = 1542; taken = 0 }))
   pub d-again : answer (after (port inD) (advance 5000)) (advance 5000) ≡ passed 100 (Reported (record { source = 0; size = 100; taken = 1 }))
   pub d-credit : after (after (port inD) (advance 5000)) (advance 5000) .credita ≡ pos 0
@@ -39,3 +55,6 @@ pub record MachineFacts : Type 0 where
   pub g-clock : port inG .clock ≡ 15624
   pub g-early : answer (port inG) (offer 0 58) ≡ denied 13 0
   pub g-taken : answer (after (port inG) (advance 1)) (offer 0 58) ≡ taken
+  -- (f) deadline 3142 for row 1 accepted, 3141 refused with 10
+  pub f-3142 : opening (specimenWith 3142) ≡ accepted
+  pub f-3141 : opening (specimenWith 3141) ≡ refused 10 1
