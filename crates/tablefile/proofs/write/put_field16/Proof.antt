@@ -1,0 +1,24 @@
+-- `tablefile::write::put_field16` meets its contract.
+use Rattle.tablefile.specs.Layout.{u16Bytes}
+use Rattle.tablefile.proofs.Stated.{field-none, field-room, field-stated}
+use borrow.Author.Needs.{needs}
+use Rattle.tablefile.proofs.write.put_field16.Statement.{statement}
+use Rattle.tablefile.proofs.write.put_field16.Tie as tie
+
+returns : tie.Need-returns
+returns c = field-none (u16Bytes (c .before .before .args .value)) _ _ (c .if1 .taken)
+
+put16-requires : tie.Need-put16-requires
+put16-requires c κs = field-room (u16Bytes (c .before .before .before .args .value)) _ (c .before .if1 .left) (c .before .before .before .pre)
+
+add-result : tie.Need-add-result
+add-result c = search needs
+
+same-length : tie.Need-same-length
+same-length c = search needs
+
+returns-2 : tie.Need-returns-2
+returns-2 c = field-stated (u16Bytes (c .before .before .before .before .before .before .args .value)) _ _ (c .before .before .before .before .if1 .left) (c .before .before .put16 .ensures)
+
+pub put-field16-spec : {M : Type 1} → statement M
+put-field16-spec = tie.close (tie.spec returns put16-requires add-result same-length returns-2)
