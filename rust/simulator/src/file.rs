@@ -1,0 +1,199 @@
+//! Table files.
+
+use std::ops::RangeInclusive;
+
+use crate::refusal::{refuse, Refusal};
+use crate::table::{
+    check_ranges, Class, Row, Table, IDLE_RANGE, MOST_ROWS, PAYLOAD_RANGE, PERIOD_RANGE,
+};
+
+/// "The header, 15 bytes"
+pub const HEADER_SIZE: usize = 15;
+
+/// "opens with the four letters AVB1"
+pub const LETTERS: &[u8; 4] = b"AVB1";
+
+/// "bit 0 payload u16"
+const PAYLOAD_BIT: u8 = 1 << 0;
+/// "bit 1 period u32"
+const PERIOD_BIT: u8 = 1 << 1;
+/// "bit 2 deadline u32"
+const DEADLINE_BIT: u8 = 1 << 2;
+/// "a map bit of 3 to 6"
+const UNUSED_BITS: u8 = 0b0111_1000;
+/// "bit 7 set for class B, without a field"
+const CLASS_B_BIT: u8 = 1 << 7;
+
+/// "Defaults: payload 42"
+const DEFAULT_PAYLOAD: u64 = 42;
+
+/// "period 15,625 for A (125 µs), 31,250 for B"
+fn default_period(class: Class) -> u64 {
+    match class {
+        Class::A => 15_625,
+        Class::B => 31_250,
+    }
+}
+
+/// "Fields are unsigned and big-endian"
+fn big_endian(bytes: &[u8]) -> u64 {
+    bytes
+        .iter()
+        .fold(0, |value, byte| value << 8 | u64::from(*byte))
+}
+
+/// "Reading a file: in file order, place the offset of the byte at fault or
+/// of the first byte of the field at fault."
+pub fn read(file: &[u8]) -> Result<Table, Refusal> {
+    // "1, the file ends inside the header (place 0, tested before all else)"
+    if file.len() < HEADER_SIZE {
+        return refuse(1, 0);
+    }
+    // "2, wrong first four bytes (place 0)."
+    if file[0..4] != LETTERS[..] {
+        return refuse(2, 0);
+    }
+    // "then IA u32, IB u32, best-effort payload u16, row count u8"; "5, out of
+    // range. 3, row count."
+    let idle_a = big_endian(&file[4..8]);
+    if !IDLE_RANGE.contains(&idle_a) {
+        return refuse(5, 4);
+    }
+    let idle_b = big_endian(&file[8..12]);
+    if !IDLE_RANGE.contains(&idle_b) {
+        return refuse(5, 8);
+    }
+    let best_payload = big_endian(&file[12..14]);
+    if !PAYLOAD_RANGE.contains(&best_payload) {
+        return refuse(5, 12);
+    }
+    let count = usize::from(file[14]);
+    if !(1..=MOST_ROWS).contains(&count) {
+        return refuse(3, 14);
+    }
+    let mut at = HEADER_SIZE;
+    let mut rows = Vec::with_capacity(count);
+    for _ in 0..count {
+        rows.push(read_row(file, &mut at)?);
+    }
+    // "7, bytes after the last row."
+    if at < file.len() {
+        return refuse(7, at);
+    }
+    Ok(Table {
+        idle_a,
+        idle_b,
+        best_payload,
+        rows,
+    })
+}
+
+/// "Each row opens with a map byte ... Only fields whose bit stands follow, in
+/// bit order."
+fn read_row(file: &[u8], at: &mut usize) -> Result<Row, Refusal> {
+    // "1, the file ends inside ... a row's map"
+    let Some(&map) = file.get(*at) else {
+        return refuse(1, *at);
+    };
+    // "4, a map bit of 3 to 6."
+    if map & UNUSED_BITS != 0 {
+        return refuse(4, *at);
+    }
+    *at += 1;
+    let class = if map & CLASS_B_BIT != 0 {
+        Class::B
+    } else {
+        Class::A
+    };
+
+    let mut payload = DEFAULT_PAYLOAD;
+    if map & PAYLOAD_BIT != 0 {
+        payload = read_field(file, at, 2, PAYLOAD_RANGE, DEFAULT_PAYLOAD)?;
+    }
+    let mut period = default_period(class);
+    if map & PERIOD_BIT != 0 {
+        period = read_field(file, at, 4, PERIOD_RANGE, default_period(class))?;
+    }
+    // "deadline the row's period"
+    let mut deadline = period;
+    if map & DEADLINE_BIT != 0 {
+        deadline = read_field(file, at, 4, 1..=period, period)?;
+    }
+    Ok(Row {
+        class,
+        payload,
+        period,
+        deadline,
+    })
+}
+
+/// A field of a row that stands in the file.
+fn read_field(
+    file: &[u8],
+    at: &mut usize,
+    size: usize,
+    range: RangeInclusive<u64>,
+    default: u64,
+) -> Result<u64, Refusal> {
+    // "1, the file ends inside ... a field."
+    let Some(bytes) = file.get(*at..*at + size) else {
+        return refuse(1, *at);
+    };
+    let value = big_endian(bytes);
+    // "5, out of range."
+    if !range.contains(&value) {
+        return refuse(5, *at);
+    }
+    // "6, a field stating its default."
+    if value == default {
+        return refuse(6, *at);
+    }
+    *at += size;
+    Ok(value)
+}
+
+/// Writing gives the file's size.
+pub fn write(table: &Table, buffer: &mut [u8]) -> Result<usize, Refusal> {
+    // "3 and 5 as at opening."
+    check_ranges(table)?;
+    let file = file_of(table);
+    // "17, buffer shorter than the file."
+    if buffer.len() < file.len() {
+        return refuse(17, 0);
+    }
+    // "bytes behind the file keep their values"
+    buffer[..file.len()].copy_from_slice(&file);
+    Ok(file.len())
+}
+
+/// The bytes of a table whose row count and values are in range.
+fn file_of(table: &Table) -> Vec<u8> {
+    let mut file = Vec::new();
+    file.extend_from_slice(LETTERS);
+    file.extend_from_slice(&(table.idle_a as u32).to_be_bytes());
+    file.extend_from_slice(&(table.idle_b as u32).to_be_bytes());
+    file.extend_from_slice(&(table.best_payload as u16).to_be_bytes());
+    file.push(table.rows.len() as u8);
+    for row in &table.rows {
+        let map_at = file.len();
+        let mut map = 0;
+        file.push(map);
+        if row.class == Class::B {
+            map |= CLASS_B_BIT;
+        }
+        if row.payload != DEFAULT_PAYLOAD {
+            map |= PAYLOAD_BIT;
+            file.extend_from_slice(&(row.payload as u16).to_be_bytes());
+        }
+        if row.period != default_period(row.class) {
+            map |= PERIOD_BIT;
+            file.extend_from_slice(&(row.period as u32).to_be_bytes());
+        }
+        if row.deadline != row.period {
+            map |= DEADLINE_BIT;
+            file.extend_from_slice(&(row.deadline as u32).to_be_bytes());
+        }
+        file[map_at] = map;
+    }
+    file
+}

@@ -1,0 +1,17 @@
+//! A byte-time simulator of one gigabit output port with credit-based
+//! shaping, its planner, its table files and its two programs.
+//!
+//! The simulator follows the rules of the full scope one by one. In the
+//! modules each rule stands in quotation marks above the lines that do it.
+
+pub mod file;
+pub mod port;
+pub mod programs;
+pub mod refusal;
+pub mod table;
+
+pub use file::{read, write};
+pub use port::{broken, Advance, Frame, Mark, Port, Wire};
+pub use programs::{portrun, portsheet};
+pub use refusal::Refusal;
+pub use table::{bounds, open, wire_size, Class, Row, Table};

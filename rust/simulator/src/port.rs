@@ -1,0 +1,442 @@
+//! The port: its record, the check of a record, the calls and the byte-time.
+
+use std::collections::VecDeque;
+
+use crate::refusal::{refuse, Refusal};
+use crate::table::{accept, wire_size, Class, Figures, Table, MOST_ROWS};
+
+/// "a clock (0 to 1,099,511,627,775)"
+pub const LAST_CLOCK: u64 = 1_099_511_627_775;
+
+/// "Offer of best effort: at most 16 wait."
+pub const MOST_BEST: usize = 16;
+
+/// "Advance by n (0 to 65,535)"
+pub const MOST_ADVANCE: u64 = 65_535;
+
+/// The smallest wire size.
+pub const LEAST_SIZE: u64 = 84;
+
+/// A frame's "row or best-effort mark".
+#[derive(Clone, Copy, Debug, PartialEq, Eq)]
+pub enum Mark {
+    Row(usize),
+    BestEffort,
+}
+
+/// "A frame has its row or best-effort mark, wire size and instant taken."
+#[derive(Clone, Copy, Debug, PartialEq, Eq)]
+pub struct Frame {
+    pub mark: Mark,
+    pub size: u64,
+    pub instant: u64,
+}
+
+/// "the wire: free, or a frame with its bytes left"
+#[derive(Clone, Copy, Debug, PartialEq, Eq)]
+pub enum Wire {
+    Free,
+    Sending(Frame, u64),
+}
+
+/// "A port has its table, a clock, two credits, three first-in-first-out
+/// queues (A, B, best effort), the instant of each row's last taken frame, and
+/// the wire." The record may hold anything; every call begins with the check.
+#[derive(Clone, Debug)]
+pub struct Port {
+    pub table: Table,
+    pub clock: u64,
+    pub credit_a: i64,
+    pub credit_b: i64,
+    pub queue_a: VecDeque<Frame>,
+    pub queue_b: VecDeque<Frame>,
+    pub queue_best: VecDeque<Frame>,
+    /// 32 places, one for each row there may be.
+    pub last: Vec<Option<u64>>,
+    pub wire: Wire,
+}
+
+/// "Ports are compared by these parts; a record's queue and row places not in
+/// use belong to none of them and may hold anything."
+impl PartialEq for Port {
+    fn eq(&self, other: &Port) -> bool {
+        self.table == other.table
+            && self.clock == other.clock
+            && self.credit_a == other.credit_a
+            && self.credit_b == other.credit_b
+            && self.queue_a == other.queue_a
+            && self.queue_b == other.queue_b
+            && self.queue_best == other.queue_best
+            && self.last_in_use().eq(other.last_in_use())
+            && self.wire == other.wire
+    }
+}
+
+impl Eq for Port {}
+
+/// "gives the count passed and the ended frame or none"
+#[derive(Clone, Copy, Debug, PartialEq, Eq)]
+pub struct Advance {
+    pub passed: u64,
+    pub ended: Option<Frame>,
+}
+
+/// The three queues and the wire, as places that a frame is in.
+#[derive(Clone, Copy, PartialEq, Eq)]
+enum Place {
+    QueueA,
+    QueueB,
+    QueueBest,
+    Wire,
+}
+
+impl Port {
+    /// "Fresh: clock and credits 0, no frames, no instants."
+    pub fn fresh(table: Table) -> Port {
+        Port {
+            table,
+            clock: 0,
+            credit_a: 0,
+            credit_b: 0,
+            queue_a: VecDeque::with_capacity(MOST_ROWS),
+            queue_b: VecDeque::with_capacity(MOST_ROWS),
+            queue_best: VecDeque::with_capacity(MOST_BEST),
+            last: vec![None; MOST_ROWS],
+            wire: Wire::Free,
+        }
+    }
+
+    /// The last instants of the rows in use.
+    fn last_in_use(&self) -> impl Iterator<Item = &Option<u64>> {
+        self.last.iter().take(self.table.rows.len())
+    }
+
+    /// Every frame in the port with its place.
+    fn frames(&self) -> impl Iterator<Item = (Place, &Frame)> {
+        let on_wire = match &self.wire {
+            Wire::Free => None,
+            Wire::Sending(frame, _) => Some(frame),
+        };
+        let a = self.queue_a.iter().map(|frame| (Place::QueueA, frame));
+        let b = self.queue_b.iter().map(|frame| (Place::QueueB, frame));
+        let best = self
+            .queue_best
+            .iter()
+            .map(|frame| (Place::QueueBest, frame));
+        let wire = on_wire.into_iter().map(|frame| (Place::Wire, frame));
+        a.chain(b).chain(best).chain(wire)
+    }
+
+    /// Every row's frame in the port with its row.
+    fn row_frames(&self) -> impl Iterator<Item = (usize, &Frame)> {
+        self.frames().filter_map(|(_, frame)| match frame.mark {
+            Mark::Row(row) => Some((row, frame)),
+            Mark::BestEffort => None,
+        })
+    }
+}
+
+/// The names of the clauses by which a record is broken, in the order in which
+/// `broken` tries them.
+pub const CLAUSES: [&str; 14] = [
+    "table not accepted",
+    "clock out of range",
+    "credit of A out of range",
+    "credit of B out of range",
+    "more than 16 best-effort frames wait",
+    "a frame names no row",
+    "a frame is in the wrong queue",
+    "a frame's size is out of range",
+    "bytes left are 0 or above the size",
+    "a frame's instant is after the clock",
+    "a row's last instant is after the clock",
+    "a row has two frames",
+    "a row's frame wasn't taken at the row's last instant",
+    "a row's frame is as old as its bound",
+];
+
+/// "A record is broken if ...": the name of the first clause that holds, none
+/// for a sound record.
+pub fn broken(port: &Port) -> Option<&'static str> {
+    let table = &port.table;
+
+    // "its table isn't accepted"
+    let Ok(accepted) = accept(table) else {
+        return Some(CLAUSES[0]);
+    };
+
+    // "its clock or a credit is out of range (−S × L to I × H)"
+    if port.clock > LAST_CLOCK {
+        return Some(CLAUSES[1]);
+    }
+    let in_range = |class: &Figures, credit: i64| {
+        let lowest = -((class.send * class.largest) as i64);
+        let highest = (class.idle * class.blocking) as i64;
+        (lowest..=highest).contains(&credit)
+    };
+    if !in_range(&accepted.a, port.credit_a) {
+        return Some(CLAUSES[2]);
+    }
+    if !in_range(&accepted.b, port.credit_b) {
+        return Some(CLAUSES[3]);
+    }
+
+    // "more than 16 best-effort frames wait"
+    if port.queue_best.len() > MOST_BEST {
+        return Some(CLAUSES[4]);
+    }
+
+    // "a frame names no row of the table"
+    if port.row_frames().any(|(row, _)| row >= table.rows.len()) {
+        return Some(CLAUSES[5]);
+    }
+
+    // "is in the wrong queue"
+    let right_queue = |frame: &Frame| match frame.mark {
+        Mark::BestEffort => Place::QueueBest,
+        Mark::Row(row) => match table.rows[row].class {
+            Class::A => Place::QueueA,
+            Class::B => Place::QueueB,
+        },
+    };
+    if port
+        .frames()
+        .any(|(place, frame)| place != Place::Wire && place != right_queue(frame))
+    {
+        return Some(CLAUSES[6]);
+    }
+
+    // "or has a size outside 84 to its row's C (best effort: LC)"
+    let largest_size = |frame: &Frame| match frame.mark {
+        Mark::BestEffort => table.best_size(),
+        Mark::Row(row) => table.rows[row].size(),
+    };
+    if port
+        .frames()
+        .any(|(_, frame)| !(LEAST_SIZE..=largest_size(frame)).contains(&frame.size))
+    {
+        return Some(CLAUSES[7]);
+    }
+
+    // "bytes left are 0 or above the size"
+    if let Wire::Sending(frame, left) = port.wire {
+        if left == 0 || left > frame.size {
+            return Some(CLAUSES[8]);
+        }
+    }
+
+    // "an instant of a frame or of a row in use is after the clock"
+    if port.frames().any(|(_, frame)| frame.instant > port.clock) {
+        return Some(CLAUSES[9]);
+    }
+    if port.last_in_use().flatten().any(|&last| last > port.clock) {
+        return Some(CLAUSES[10]);
+    }
+
+    // "a row has two frames in the port"
+    let mut seen = [false; MOST_ROWS];
+    for (row, _) in port.row_frames() {
+        if seen[row] {
+            return Some(CLAUSES[11]);
+        }
+        seen[row] = true;
+    }
+
+    // "a row's frame wasn't taken at the row's last instant"
+    if port
+        .row_frames()
+        .any(|(row, frame)| port.last.get(row) != Some(&Some(frame.instant)))
+    {
+        return Some(CLAUSES[12]);
+    }
+
+    // "a row's frame is as old as its bound or older"
+    if port
+        .row_frames()
+        .any(|(row, frame)| port.clock - frame.instant >= accepted.bounds[row])
+    {
+        return Some(CLAUSES[13]);
+    }
+
+    None
+}
+
+/// The calls. "Checks run in the order given and the first decides."
+impl Port {
+    /// "Offer to a row: taken, it joins its class's queue."
+    pub fn offer(&mut self, row: u64, payload: u64) -> Result<(), Refusal> {
+        // "18, broken record."
+        if broken(self).is_some() {
+            return refuse(18, 0);
+        }
+        // "11, no such row."
+        if row >= self.table.rows.len() as u64 {
+            return refuse(11, 0);
+        }
+        let place = row as usize;
+        let row = self.table.rows[place];
+        // "12, payload above the row's."
+        if payload > row.payload {
+            return refuse(12, 0);
+        }
+        // "13, early": "clock − last taken instant < P; a first frame is never
+        // early"
+        if let Some(last) = self.last[place] {
+            if self.clock - last < row.period {
+                return refuse(13, 0);
+            }
+        }
+        // "A class queue has no refusal."
+        let frame = Frame {
+            mark: Mark::Row(place),
+            size: wire_size(payload),
+            instant: self.clock,
+        };
+        match row.class {
+            Class::A => self.queue_a.push_back(frame),
+            Class::B => self.queue_b.push_back(frame),
+        }
+        self.last[place] = Some(self.clock);
+        Ok(())
+    }
+
+    /// "Offer of best effort: at most 16 wait."
+    pub fn offer_best(&mut self, payload: u64) -> Result<(), Refusal> {
+        // "18."
+        if broken(self).is_some() {
+            return refuse(18, 0);
+        }
+        // "12, payload above the table's."
+        if payload > self.table.best_payload {
+            return refuse(12, 0);
+        }
+        // "14, 16 waiting."
+        if self.queue_best.len() >= MOST_BEST {
+            return refuse(14, 0);
+        }
+        self.queue_best.push_back(Frame {
+            mark: Mark::BestEffort,
+            size: wire_size(payload),
+            instant: self.clock,
+        });
+        Ok(())
+    }
+
+    /// "Advance by n (0 to 65,535) runs byte-times until a frame ends or n
+    /// have passed, and gives the count passed and the ended frame or none."
+    pub fn advance(&mut self, n: u64) -> Result<Advance, Refusal> {
+        // "18."
+        if broken(self).is_some() {
+            return refuse(18, 0);
+        }
+        // "15, n above 65,535."
+        if n > MOST_ADVANCE {
+            return refuse(15, 0);
+        }
+        // "16, clock + n past its last value."
+        if self.clock + n > LAST_CLOCK {
+            return refuse(16, 0);
+        }
+        let mut passed = 0;
+        let mut ended = None;
+        while passed < n && ended.is_none() {
+            ended = self.byte_time();
+            passed += 1;
+        }
+        Ok(Advance { passed, ended })
+    }
+}
+
+/// The byte-time machine.
+impl Port {
+    /// One byte-time of a sound record. Gives the frame that ended, if any.
+    #[inline]
+    pub fn byte_time(&mut self) -> Option<Frame> {
+        // 1. "On a free wire, the head of A goes out if A's credit is at least
+        // 0; else the head of B likewise; else the best-effort head; else the
+        // wire stays free."
+        if let Wire::Free = self.wire {
+            if let Some(frame) = self.take_next() {
+                self.wire = Wire::Sending(frame, frame.size);
+            }
+        }
+
+        // 2. The credits change.
+        let sending = self.class_on_wire();
+        self.credit_a = changed_credit(
+            self.credit_a,
+            self.table.idle(Class::A) as i64,
+            self.table.send(Class::A) as i64,
+            sending == Some(Class::A),
+            !self.queue_a.is_empty(),
+        );
+        self.credit_b = changed_credit(
+            self.credit_b,
+            self.table.idle(Class::B) as i64,
+            self.table.send(Class::B) as i64,
+            sending == Some(Class::B),
+            !self.queue_b.is_empty(),
+        );
+
+        // 3. "One byte passes, the clock gains 1; after the last byte the wire
+        // is free and the frame has ended."
+        let mut ended = None;
+        if let Wire::Sending(frame, left) = &mut self.wire {
+            *left -= 1;
+            if *left == 0 {
+                ended = Some(*frame);
+                self.wire = Wire::Free;
+            }
+        }
+        self.clock += 1;
+
+        // 4. "A class with no frame waiting or on the wire and credit above 0
+        // goes to 0."
+        let sending = if ended.is_some() { None } else { sending };
+        if self.queue_a.is_empty() && sending != Some(Class::A) && self.credit_a > 0 {
+            self.credit_a = 0;
+        }
+        if self.queue_b.is_empty() && sending != Some(Class::B) && self.credit_b > 0 {
+            self.credit_b = 0;
+        }
+        ended
+    }
+
+    /// The head that goes out on a free wire, taken from its queue.
+    fn take_next(&mut self) -> Option<Frame> {
+        if !self.queue_a.is_empty() && self.credit_a >= 0 {
+            self.queue_a.pop_front()
+        } else if !self.queue_b.is_empty() && self.credit_b >= 0 {
+            self.queue_b.pop_front()
+        } else {
+            self.queue_best.pop_front()
+        }
+    }
+
+    /// The class with its frame on the wire.
+    fn class_on_wire(&self) -> Option<Class> {
+        match self.wire {
+            Wire::Sending(frame, _) => match frame.mark {
+                Mark::Row(row) => Some(self.table.rows[row].class),
+                Mark::BestEffort => None,
+            },
+            Wire::Free => None,
+        }
+    }
+}
+
+/// Step 2 for one class.
+fn changed_credit(credit: i64, idle: i64, send: i64, on_wire: bool, waiting: bool) -> i64 {
+    if on_wire {
+        // "A class with its frame on the wire loses S."
+        credit - send
+    } else if waiting {
+        // "A class with a waiting frame and none on the wire gains I."
+        credit + idle
+    } else if credit < 0 {
+        // "A class with neither gains I if below 0, but not above 0."
+        (credit + idle).min(0)
+    } else {
+        credit
+    }
+}

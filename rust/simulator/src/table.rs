@@ -1,0 +1,241 @@
+//! A table, its bounds, and opening it.
+
+use std::ops::RangeInclusive;
+
+use crate::refusal::{refuse, Refusal};
+
+/// "With D = 1,000,000": the port rate in millionths.
+pub const D: u64 = 1_000_000;
+
+/// "1 to 32 rows"
+pub const MOST_ROWS: usize = 32;
+
+/// "I of A and of B (0 to 750,000 each)"
+pub const IDLE_RANGE: RangeInclusive<u64> = 0..=750_000;
+
+/// "A payload of p bytes, 0 to 1500", "the best-effort payload (0 to 1500)"
+pub const PAYLOAD_RANGE: RangeInclusive<u64> = 0..=1500;
+
+/// "period P (84 to 1,000,000,000 byte-times)"
+pub const PERIOD_RANGE: RangeInclusive<u64> = 84..=1_000_000_000;
+
+/// "IA + IB ≤ 750,000"
+pub const MOST_IDLE_TOGETHER: u64 = 750_000;
+
+/// The place of a refused header value at opening.
+pub const HEADER_PLACE: usize = 32;
+
+/// One of the two shaped classes.
+#[derive(Clone, Copy, Debug, PartialEq, Eq)]
+pub enum Class {
+    A,
+    B,
+}
+
+/// "A row has class A or B, payload, period P and deadline." The numbers may
+/// hold anything until the table is opened.
+#[derive(Clone, Copy, Debug, PartialEq, Eq)]
+pub struct Row {
+    pub class: Class,
+    pub payload: u64,
+    pub period: u64,
+    pub deadline: u64,
+}
+
+/// "A table has I of A and of B, the best-effort payload and 1 to 32 rows,
+/// numbered from 0." The numbers and the row count may hold anything until
+/// the table is opened.
+#[derive(Clone, Debug, PartialEq, Eq)]
+pub struct Table {
+    pub idle_a: u64,
+    pub idle_b: u64,
+    pub best_payload: u64,
+    pub rows: Vec<Row>,
+}
+
+/// "A payload of p bytes, 0 to 1500, has wire size 42 + max(42, p)."
+pub fn wire_size(payload: u64) -> u64 {
+    42 + payload.max(42)
+}
+
+impl Row {
+    /// "C is a row's wire size."
+    pub fn size(&self) -> u64 {
+        wire_size(self.payload)
+    }
+
+    /// "A row's share is D × C / P, rounded up." The row's values are in range.
+    pub fn share(&self) -> u64 {
+        (D * self.size()).div_ceil(self.period)
+    }
+}
+
+/// What the slopes and rows of one class come to.
+#[derive(Clone, Copy, Debug, PartialEq, Eq)]
+pub struct Figures {
+    /// I
+    pub idle: u64,
+    /// S
+    pub send: u64,
+    /// L
+    pub largest: u64,
+    /// The sum of C over the class.
+    pub sum: u64,
+    /// The sum of the shares of the class.
+    pub shares: u64,
+    /// H
+    pub blocking: u64,
+    /// How many rows the class has.
+    pub rows: usize,
+}
+
+impl Figures {
+    /// "A row's bound is C + H + (D × (sum of C over its class − C) + S × L)
+    /// / I, the quotient rounded down, S, L and I being its class's."
+    pub fn bound(&self, size: u64) -> u64 {
+        size + self.blocking + (D * (self.sum - size) + self.send * self.largest) / self.idle
+    }
+}
+
+/// The questions about a table whose row count and values are in range.
+impl Table {
+    fn of(&self, class: Class) -> impl Iterator<Item = &Row> {
+        self.rows.iter().filter(move |row| row.class == class)
+    }
+
+    /// The idle slope I of a class.
+    pub fn idle(&self, class: Class) -> u64 {
+        match class {
+            Class::A => self.idle_a,
+            Class::B => self.idle_b,
+        }
+    }
+
+    /// "its send slope is S = D − I"
+    pub fn send(&self, class: Class) -> u64 {
+        D - self.idle(class)
+    }
+
+    /// "LA, LB are the largest C in A and in B, 0 for an empty class"
+    pub fn largest(&self, class: Class) -> u64 {
+        self.of(class).map(Row::size).max().unwrap_or(0)
+    }
+
+    /// "LC is the best-effort wire size."
+    pub fn best_size(&self) -> u64 {
+        wire_size(self.best_payload)
+    }
+
+    /// Blocking H.
+    pub fn blocking(&self, class: Class) -> u64 {
+        let (la, lb, lc) = (
+            self.largest(Class::A),
+            self.largest(Class::B),
+            self.best_size(),
+        );
+        match class {
+            // "class A: max(LB, LC)"
+            Class::A => lb.max(lc),
+            // "class B: LA + (max(D × LC, IA × LB) / SA, rounded up), where
+            // IA, SA are A's slopes"
+            Class::B => {
+                let (ia, sa) = (self.idle(Class::A), self.send(Class::A));
+                la + (D * lc).max(ia * lb).div_ceil(sa)
+            }
+        }
+    }
+
+    /// All figures of a class.
+    pub fn figures(&self, class: Class) -> Figures {
+        Figures {
+            idle: self.idle(class),
+            send: self.send(class),
+            largest: self.largest(class),
+            sum: self.of(class).map(Row::size).sum(),
+            shares: self.of(class).map(Row::share).sum(),
+            blocking: self.blocking(class),
+            rows: self.of(class).count(),
+        }
+    }
+}
+
+/// Refusals 3 and 5, which opening and writing share.
+pub fn check_ranges(table: &Table) -> Result<(), Refusal> {
+    // "3, row count not 1 to 32."
+    if !(1..=MOST_ROWS).contains(&table.rows.len()) {
+        return refuse(3, 0);
+    }
+    // "5, a value out of range, place its row, or 32 for a header value
+    // (header first; in a row payload, period, deadline)."
+    if !IDLE_RANGE.contains(&table.idle_a)
+        || !IDLE_RANGE.contains(&table.idle_b)
+        || !PAYLOAD_RANGE.contains(&table.best_payload)
+    {
+        return refuse(5, HEADER_PLACE);
+    }
+    for (place, row) in table.rows.iter().enumerate() {
+        if !PAYLOAD_RANGE.contains(&row.payload)
+            || !PERIOD_RANGE.contains(&row.period)
+            // "deadline (1 to P)"
+            || !(1..=row.period).contains(&row.deadline)
+        {
+            return refuse(5, place);
+        }
+    }
+    Ok(())
+}
+
+/// What an accepted table comes to.
+#[derive(Clone, Copy, Debug, PartialEq, Eq)]
+pub struct Accepted {
+    pub a: Figures,
+    pub b: Figures,
+    /// The rows' bounds, 0 in each place behind the last row.
+    pub bounds: [u64; MOST_ROWS],
+}
+
+/// Opening a table.
+pub fn open(table: &Table) -> Result<(), Refusal> {
+    accept(table).map(|_| ())
+}
+
+/// "When bounds are asked for, ... the answer holds 32 bounds, 0 in each place
+/// behind the last row." It is refused as opening is.
+pub fn bounds(table: &Table) -> Result<[u64; MOST_ROWS], Refusal> {
+    accept(table).map(|accepted| accepted.bounds)
+}
+
+/// The checks of "Opening a table (also asking for bounds)".
+pub fn accept(table: &Table) -> Result<Accepted, Refusal> {
+    check_ranges(table)?;
+    let a = table.figures(Class::A);
+    let b = table.figures(Class::B);
+    // "8, the slope rules above broken": "a class's I is 0 exactly if it has
+    // no row, IA + IB ≤ 750,000"
+    if (a.idle == 0) != (a.rows == 0)
+        || (b.idle == 0) != (b.rows == 0)
+        || a.idle + b.idle > MOST_IDLE_TOGETHER
+    {
+        return refuse(8, 0);
+    }
+    // "9, shares above I, place 0 for A, 1 for B."
+    if a.shares > a.idle {
+        return refuse(9, 0);
+    }
+    if b.shares > b.idle {
+        return refuse(9, 1);
+    }
+    // "10, a bound above its deadline, place the lowest such row."
+    let mut bounds = [0; MOST_ROWS];
+    for (place, row) in table.rows.iter().enumerate() {
+        let class = match row.class {
+            Class::A => &a,
+            Class::B => &b,
+        };
+        bounds[place] = class.bound(row.size());
+        if bounds[place] > row.deadline {
+            return refuse(10, place);
+        }
+    }
+    Ok(Accepted { a, b, bounds })
+}
