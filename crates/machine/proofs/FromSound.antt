@@ -44,7 +44,7 @@ pub all-true : (ok : Frame → Bool) (q : List Frame) → allOf ok q ≡ true �
 all-true ok [] e = tt
 all-true ok (f ∷ q) e = let p = and-true (ok f) (allOf ok q) e in (p .0, all-true ok q (p .1))
 
-up-to-true : (n : ℕ) (ok : ℕ → Bool) → upTo n ok ≡ true → (k : ℕ) → k < n → ok k ≡ true
+pub up-to-true : (n : ℕ) (ok : ℕ → Bool) → upTo n ok ≡ true → (k : ℕ) → k < n → ok k ≡ true
 up-to-true zero ok e k h = absurd (omega arith)
 up-to-true (suc n) ok e k h = go (eqb k n) refl (up-to-true n ok (p .0))
   where

@@ -167,7 +167,7 @@ fn read_payload(s: &[u8], map: u8) -> RowRead
 }
 
 // A row, from a part of the file that starts at the row's map byte.
-pub fn read_row(s: &[u8]) -> RowRead
+fn read_row(s: &[u8]) -> RowRead
     ensures { λ r. ⌜ r ≡ readRow (now (s .entry)) ⌝ }
 {
     if s.len() == 0 {

@@ -1,0 +1,9 @@
+-- Laws that belong to no one function.
+mod Counting
+mod Judged
+mod Numbers
+mod Parts
+mod Signs
+mod Viewed
+mod Waits
+mod Walk

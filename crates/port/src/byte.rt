@@ -1,0 +1,259 @@
+// One byte-time, on the few numbers that it changes.
+ghost use mathlib.Core.Path.{_≡_};
+ghost use Prim.Native.Nat.{_+_, _-_, _≤_};
+ghost use mathlib.Core.Bool.{_&&_};
+ghost use lib.Dec.{leb};
+ghost use lib.Signed.{mag};
+ghost use Rattle.machine.specs.Time.{upToZero};
+ghost use Rattle.port.specs.Bytes.{settledBy, creditAfter, isA, isB, isNobody, readyBy, goesA, goesB, goesBest, onFree, startedHot, passedHot, tickHot, endedHot, runHot, Near};
+use crate::Fixed;
+use crate::Hot;
+use crate::Ran;
+use crate::Sender;
+
+// A credit above 0 goes to 0.
+fn up_to_zero(credit: i64) -> i64
+    ensures { λ r. ⌜ r ≡ upToZero credit ⌝ }
+{
+    if 0 < credit {
+        return 0;
+    }
+    credit
+}
+
+// Step 4: a class with no frame waiting or on the wire has no credit above 0.
+fn lowered(still: bool, waits: bool, credit: i64) -> i64
+    ensures { λ r. ⌜ r ≡ settledBy still waits credit ⌝ }
+{
+    if still {
+        return credit;
+    }
+    if waits {
+        return credit;
+    }
+    up_to_zero(credit)
+}
+
+// A class's credit after a byte-time: steps 2 and 4. `on`, its frame is on the wire as the byte passes; `still`, and afterwards
+// too; `waits`, it has a frame waiting.
+fn credit_after(on: bool, still: bool, waits: bool, idle: u32, send: u32, credit: i64) -> i64
+    requires { ⌜ mag credit ≤ 1125899906842624 ⌝ }
+    requires { ⌜ idle ≤ 1000000 ⌝ }
+    requires { ⌜ send ≤ 1000000 ⌝ }
+    ensures { λ r. ⌜ r ≡ creditAfter on still waits idle send credit ⌝ }
+    ensures near { λ r. ⌜ mag r ≤ mag credit + 1000002 ⌝ }
+{
+    if on {
+        return lowered(still, waits, credit - send as i64);
+    }
+    if waits {
+        return lowered(still, waits, credit + idle as i64);
+    }
+    if 0 <= credit {
+        return lowered(still, waits, credit);
+    }
+    lowered(still, waits, up_to_zero(credit + idle as i64))
+}
+
+fn is_a(s: Sender) -> bool
+    ensures { λ r. ⌜ r ≡ isA s ⌝ }
+{
+    match s {
+        Sender::Nobody => false,
+        Sender::ClassA => true,
+        Sender::ClassB => false,
+        Sender::BestEffort => false,
+    }
+}
+
+fn is_b(s: Sender) -> bool
+    ensures { λ r. ⌜ r ≡ isB s ⌝ }
+{
+    match s {
+        Sender::Nobody => false,
+        Sender::ClassA => false,
+        Sender::ClassB => true,
+        Sender::BestEffort => false,
+    }
+}
+
+fn is_nobody(s: Sender) -> bool
+    ensures { λ r. ⌜ r ≡ isNobody s ⌝ }
+{
+    match s {
+        Sender::Nobody => true,
+        Sender::ClassA => false,
+        Sender::ClassB => false,
+        Sender::BestEffort => false,
+    }
+}
+
+// A class's head may go out: it has one, and credit at least 0.
+fn ready(credit: i64, waits: bool) -> bool
+    ensures { λ r. ⌜ r ≡ readyBy credit waits ⌝ }
+{
+    if 0 <= credit {
+        return waits;
+    }
+    false
+}
+
+// The head of A goes out.
+fn goes_a(h: Hot, x: Fixed) -> Hot
+    ensures { λ r. ⌜ r ≡ goesA h x ⌝ }
+{
+    let f = x.heada;
+    Hot {
+        credita: h.credita,
+        creditb: h.creditb,
+        sender: Sender::ClassA,
+        frame: f,
+        left: f.size,
+        moved: true,
+        waitsa: x.morea,
+        waitsb: h.waitsb,
+        waitsbest: h.waitsbest,
+    }
+}
+
+// The head of B goes out.
+fn goes_b(h: Hot, x: Fixed) -> Hot
+    ensures { λ r. ⌜ r ≡ goesB h x ⌝ }
+{
+    let f = x.headb;
+    Hot {
+        credita: h.credita,
+        creditb: h.creditb,
+        sender: Sender::ClassB,
+        frame: f,
+        left: f.size,
+        moved: true,
+        waitsa: h.waitsa,
+        waitsb: x.moreb,
+        waitsbest: h.waitsbest,
+    }
+}
+
+// The best-effort head goes out.
+fn goes_best(h: Hot, x: Fixed) -> Hot
+    ensures { λ r. ⌜ r ≡ goesBest h x ⌝ }
+{
+    let f = x.headbest;
+    Hot {
+        credita: h.credita,
+        creditb: h.creditb,
+        sender: Sender::BestEffort,
+        frame: f,
+        left: f.size,
+        moved: true,
+        waitsa: h.waitsa,
+        waitsb: h.waitsb,
+        waitsbest: h.waitsbest,
+    }
+}
+
+// On a free wire a head goes out: A's, or else B's, or else the best-effort one.
+fn on_free(h: Hot, x: Fixed) -> Hot
+    ensures { λ r. ⌜ r ≡ onFree h x ⌝ }
+{
+    if ready(h.credita, h.waitsa) {
+        return goes_a(h, x);
+    }
+    if ready(h.creditb, h.waitsb) {
+        return goes_b(h, x);
+    }
+    if h.waitsbest {
+        return goes_best(h, x);
+    }
+    h
+}
+
+// Step 1: on a free wire a head goes out.
+fn started(h: Hot, x: Fixed) -> Hot
+    ensures { λ r. ⌜ r ≡ startedHot h x ⌝ }
+{
+    let who = h.sender;
+    if is_nobody(who) {
+        return on_free(h, x);
+    }
+    h
+}
+
+// Whether a sender still has the wire after the byte.
+fn keeps(on: bool, left: u32) -> bool
+    ensures { λ r. ⌜ r ≡ on && leb 2 left ⌝ }
+{
+    if on {
+        return 2 <= left;
+    }
+    false
+}
+
+fn one_less(left: u32) -> u32
+    ensures { λ r. ⌜ r ≡ left - 1 ⌝ }
+{
+    if left == 0 { 0 } else { left - 1 }
+}
+
+// Steps 2, 3 and 4: a byte passes.
+fn passed(h: Hot, x: Fixed) -> Hot
+    requires { ⌜ Near 1125899906842624 h x ⌝ }
+    ensures { λ r. ⌜ r ≡ passedHot h x ⌝ }
+{
+    let who = h.sender;
+    let a = is_a(who);
+    let b = is_b(who);
+    let left = h.left;
+    let credita = credit_after(a, keeps(a, left), h.waitsa, x.idlea, x.senda, h.credita);
+    let creditb = credit_after(b, keeps(b, left), h.waitsb, x.idleb, x.sendb, h.creditb);
+    let mut r = h;
+    r.credita = credita;
+    r.creditb = creditb;
+    r.left = one_less(left);
+    r
+}
+
+// One byte-time.
+fn tick(h: Hot, x: Fixed) -> Hot
+    requires { ⌜ Near 1125899906842624 h x ⌝ }
+    ensures { λ r. ⌜ r ≡ tickHot h x ⌝ }
+{
+    passed(started(h, x), x)
+}
+
+// A frame has ended: someone has the wire and no byte is left.
+fn has_ended(h: Hot) -> bool
+    ensures { λ r. ⌜ r ≡ endedHot h ⌝ }
+{
+    let who = h.sender;
+    if is_nobody(who) {
+        return false;
+    }
+    h.left <= 0
+}
+
+// Byte-times until a frame ends or n have passed.
+fn run(h: Hot, x: Fixed, n: u64) -> Ran
+    requires { ⌜ Near 1099511627776 h x ⌝ }
+    requires { ⌜ n ≤ 65535 ⌝ }
+    ensures { λ r. ⌜ r ≡ runHot n h x ⌝ }
+{
+    let mut hot = h;
+    let mut i: u64 = 0;
+    while i < n {
+        hot = tick(hot, x);
+        i += 1;
+        if has_ended(hot) {
+            return Ran {
+                hot,
+                passed: i,
+                ended: true,
+            };
+        }
+    }
+    Ran {
+        hot,
+        passed: i,
+        ended: false,
+    }
+}

@@ -1,0 +1,160 @@
+// The offer to a row and the offer of best effort.
+ghost use mathlib.Core.Path.{_≡_};
+ghost use mathlib.Core.Bool.{true};
+ghost use Prim.Native.Nat.{_≤_, _<_};
+ghost use Rattle.planner.specs.Wire.{periodOf};
+ghost use Rattle.machine.specs.State.{view, instantOf};
+ghost use Rattle.machine.specs.Record.{notAfter};
+ghost use Rattle.machine.specs.Calls.{tooSoon, joined, takeRow, takeBest, Offered, OfferedBest};
+ghost use Rattle.port.specs.Steps.{refusal};
+use crate::check::is_sound;
+use crate::queues::best_pushed;
+use crate::queues::pushed;
+use machine::AfterOffer;
+use machine::Denial;
+use machine::Frame;
+use machine::Last;
+use machine::Offer;
+use machine::Port;
+use planner::Class;
+use planner::Row;
+use planner::wire::period;
+use planner::wire::size_for;
+use planner::wire::wire_size;
+
+// A refused offer hands back the record as it was.
+fn refused(port: Port, d: Denial) -> AfterOffer
+    ensures { λ r. ⌜ r ≡ refusal port d ⌝ }
+{
+    AfterOffer {
+        answer: Offer::Refused(d),
+        port,
+    }
+}
+
+// Less than its period has passed since a row's last frame was taken. A first frame is never early.
+fn too_soon(l: Last, clock: u64, row: Row) -> bool
+    requires { ⌜ notAfter clock (instantOf l) ≡ true ⌝ }
+    ensures { λ r. ⌜ r ≡ tooSoon (instantOf l) clock (periodOf row) ⌝ }
+{
+    if !l.known {
+        return false;
+    }
+    clock - l.taken < period(row)
+}
+
+// A row's frame joins its class's queue, and its instant is the row's last.
+fn row_joined(p: Port, class: Class, f: Frame) -> Port
+    requires { ⌜ p .table .count ≤ 32 ⌝ }
+    requires { ⌜ f .source < p .table .count ⌝ }
+    requires { ⌜ p .a .count < 32 ⌝ }
+    requires { ⌜ p .b .count < 32 ⌝ }
+    ensures { λ r. ⌜ view r ≡ joined class f (view p) ⌝ }
+{
+    let k = f.source as usize;
+    let mut last = p.last;
+    last[k] = Last {
+        known: true,
+        taken: f.taken,
+    };
+    let mut r = p;
+    r.last = last;
+    match class {
+        Class::A => {
+            let q = p.a;
+            let a = pushed(q, f);
+            r.a = a;
+        }
+        Class::B => {
+            let q = p.b;
+            let b = pushed(q, f);
+            r.b = b;
+        }
+    }
+    r
+}
+
+// A frame of the row k is taken.
+fn row_taken(p: Port, k: usize, payload: u16) -> Port
+    requires { ⌜ p .table .count ≤ 32 ⌝ }
+    requires { ⌜ k < p .table .count ⌝ }
+    requires { ⌜ p .a .count < 32 ⌝ }
+    requires { ⌜ p .b .count < 32 ⌝ }
+    ensures { λ r. ⌜ view r ≡ takeRow k payload (view p) ⌝ }
+{
+    let t = p.table;
+    let row = t.rows[k];
+    let f = Frame {
+        source: k as u32,
+        size: size_for(row, payload) as u32,
+        taken: p.clock,
+    };
+    let class = row.class;
+    row_joined(p, class, f)
+}
+
+// A best-effort frame is taken.
+fn best_taken(p: Port, payload: u16) -> Port
+    requires { ⌜ p .best .count < 16 ⌝ }
+    ensures { λ r. ⌜ view r ≡ takeBest payload (view p) ⌝ }
+{
+    let f = Frame {
+        source: 32,
+        size: wire_size(payload) as u32,
+        taken: p.clock,
+    };
+    let q = p.best;
+    let best = best_pushed(q, f);
+    let mut r = p;
+    r.best = best;
+    r
+}
+
+// An offer to a row. The first check that fails decides: broken record, no such row, payload, early.
+pub fn offer(p: Port, row: u64, payload: u64) -> AfterOffer
+    ensures { λ r. ⌜ Offered p row payload r ⌝ }
+{
+    if !is_sound(p) {
+        return refused(p, Denial::Broken);
+    }
+    let t = p.table;
+    if (t.count as u64) <= row {
+        return refused(p, Denial::NoSuchRow);
+    }
+    let k = row as usize;
+    let stream = t.rows[k];
+    if (stream.payload as u64) < payload {
+        return refused(p, Denial::Payload);
+    }
+    let l = p.last[k];
+    if too_soon(l, p.clock, stream) {
+        return refused(p, Denial::Early);
+    }
+    AfterOffer {
+        answer: Offer::Taken,
+        port: row_taken(p, k, payload as u16),
+    }
+}
+
+// An offer of best effort. The first check that fails decides: broken record, payload, 16 waiting.
+pub fn offer_best(port: Port, payload: u64) -> AfterOffer
+    ensures { λ r. ⌜ OfferedBest port payload r ⌝ }
+{
+    if !is_sound(port) {
+        return refused(port, Denial::Broken);
+    }
+    let t = port.table;
+    let most = t.payload as u64;
+    let q = port.best;
+    let waits = q.count;
+    if most < payload {
+        return refused(port, Denial::Payload);
+    }
+    if 16 <= waits {
+        return refused(port, Denial::BestEffortFull);
+    }
+    AfterOffer {
+        answer: Offer::Taken,
+        port: best_taken(port, payload as u16),
+    }
+}
