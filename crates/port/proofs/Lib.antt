@@ -4,6 +4,7 @@ mod Judged
 mod Numbers
 mod Parts
 mod Signs
+mod Tied
 mod Viewed
 mod Waits
 mod Walk
