@@ -71,42 +71,40 @@ pub same-credit : (on still : Bool) (q : List Frame) (i s : ℕ) (c : ℤ) → s
 same-credit on still q i s c = same-settled still q (earned on q i s c) ∙ ap (λ (z : ℤ). settledBy still (some q) z) (same-earned on q i s c)
 
 -- who sends is what the wire says
-on-a : (w : Sender) (t : Table) (f : Frame) (left : ℕ) → Owned w (owner t f) → onWire A t (wireBy w f left) ≡ isA w
-on-a Nobody t f left e = refl
-on-a ClassA t f left e = rw e refl
-on-a ClassB t f left e = rw e refl
-on-a BestEffort t f left e = rw e refl
+abbrev isOf : Class → Sender → Bool
+isOf A w = isA w
+isOf B w = isB w
 
-on-b : (w : Sender) (t : Table) (f : Frame) (left : ℕ) → Owned w (owner t f) → onWire B t (wireBy w f left) ≡ isB w
-on-b Nobody t f left e = refl
-on-b ClassA t f left e = rw e refl
-on-b ClassB t f left e = rw e refl
-on-b BestEffort t f left e = rw e refl
+sends-for : (c : Class) (w : Sender) (t : Table) (f : Frame) (left : ℕ) → Owned w (owner t f) → onWire c t (wireBy w f left) ≡ isOf c w
+sends-for A Nobody t f left e = refl
+sends-for A ClassA t f left e = rw e refl
+sends-for A ClassB t f left e = rw e refl
+sends-for A BestEffort t f left e = rw e refl
+sends-for B Nobody t f left e = refl
+sends-for B ClassA t f left e = rw e refl
+sends-for B ClassB t f left e = rw e refl
+sends-for B BestEffort t f left e = rw e refl
 
--- and so after the byte
-still-a : (w : Sender) (t : Table) (f : Frame) (left : ℕ) → Owned w (owner t f) → onWire A t (wireAfter (wireBy w f left)) ≡ isA w && leb 2 left
-still-a Nobody t f left e = refl
-still-a ClassA t f zero e = refl
-still-a ClassA t f (suc zero) e = refl
-still-a ClassA t f (suc (suc left)) e = rw (e, le-leb 2 (suc (suc left)) (omega arith)) refl
-still-a ClassB t f zero e = refl
-still-a ClassB t f (suc zero) e = refl
-still-a ClassB t f (suc (suc left)) e = rw e refl
-still-a BestEffort t f zero e = refl
-still-a BestEffort t f (suc zero) e = refl
-still-a BestEffort t f (suc (suc left)) e = rw e refl
+-- and so after the byte, unless that was the last
+and-false : (b : Bool) → false ≡ b && false
+and-false true = refl
+and-false false = refl
 
-still-b : (w : Sender) (t : Table) (f : Frame) (left : ℕ) → Owned w (owner t f) → onWire B t (wireAfter (wireBy w f left)) ≡ isB w && leb 2 left
-still-b Nobody t f left e = refl
-still-b ClassA t f zero e = refl
-still-b ClassA t f (suc zero) e = refl
-still-b ClassA t f (suc (suc left)) e = rw e refl
-still-b ClassB t f zero e = refl
-still-b ClassB t f (suc zero) e = refl
-still-b ClassB t f (suc (suc left)) e = rw (e, le-leb 2 (suc (suc left)) (omega arith)) refl
-still-b BestEffort t f zero e = refl
-still-b BestEffort t f (suc zero) e = refl
-still-b BestEffort t f (suc (suc left)) e = rw e refl
+and-true : (b : Bool) → b ≡ b && true
+and-true true = refl
+and-true false = refl
+
+after-byte : (c : Class) (t : Table) (f : Frame) (left : ℕ) (b : Bool) → owns c (owner t f) ≡ b → onWire c t (wireAfter (Sending f left)) ≡ b && leb 2 left
+after-byte c t f zero b e = and-false b
+after-byte c t f (suc zero) b e = and-false b
+after-byte c t f (suc (suc left)) b e = rw (le-leb 2 (suc (suc left)) (omega arith)) (e ∙ and-true b)
+
+still-for : (c : Class) (w : Sender) (t : Table) (f : Frame) (left : ℕ) → Owned w (owner t f) → onWire c t (wireAfter (wireBy w f left)) ≡ isOf c w && leb 2 left
+still-for A Nobody t f left e = refl
+still-for B Nobody t f left e = refl
+still-for c ClassA t f left e = after-byte c t f left (isOf c ClassA) (sends-for c ClassA t f left e)
+still-for c ClassB t f left e = after-byte c t f left (isOf c ClassB) (sends-for c ClassB t f left e)
+still-for c BestEffort t f left e = after-byte c t f left (isOf c BestEffort) (sends-for c BestEffort t f left e)
 
 -- the wire of the numbers: free once the frame has ended
 abbrev pub wireNow : Sender → Frame → ℕ → Wire
@@ -266,8 +264,8 @@ byte-tied s h x t e =
       senda = t .senda;
       idleb = t .idleb;
       sendb = t .sendb;
-      credita = rw (t .idlea, t .senda, t .credita, t .waitsa, w, on-a (h .sender) (s .table) (h .frame) (h .left) (t .owned), still-a (h .sender) (s .table) (h .frame) (h .left) (t .owned)) (sym (same-credit (isA (h .sender)) (isA (h .sender) && leb 2 (h .left)) (s .a) (idle A (s .table)) (send A (s .table)) (s .credita)));
-      creditb = rw (t .idleb, t .sendb, t .creditb, t .waitsb, w, on-b (h .sender) (s .table) (h .frame) (h .left) (t .owned), still-b (h .sender) (s .table) (h .frame) (h .left) (t .owned)) (sym (same-credit (isB (h .sender)) (isB (h .sender) && leb 2 (h .left)) (s .b) (idle B (s .table)) (send B (s .table)) (s .creditb)));
+      credita = rw (t .idlea, t .senda, t .credita, t .waitsa, w, sends-for A (h .sender) (s .table) (h .frame) (h .left) (t .owned), still-for A (h .sender) (s .table) (h .frame) (h .left) (t .owned)) (sym (same-credit (isA (h .sender)) (isA (h .sender) && leb 2 (h .left)) (s .a) (idle A (s .table)) (send A (s .table)) (s .credita)));
+      creditb = rw (t .idleb, t .sendb, t .creditb, t .waitsb, w, sends-for B (h .sender) (s .table) (h .frame) (h .left) (t .owned), still-for B (h .sender) (s .table) (h .frame) (h .left) (t .owned)) (sym (same-credit (isB (h .sender)) (isB (h .sender) && leb 2 (h .left)) (s .b) (idle B (s .table)) (send B (s .table)) (s .creditb)));
       waitsa = t .waitsa;
       waitsb = t .waitsb;
       wire = rw w (wire-after (h .sender) (h .frame) (h .left));

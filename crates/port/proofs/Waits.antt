@@ -7,14 +7,8 @@ use native.Mathlib.Numerals.{add-one}
 use native.Mathlib.Omega.{arith}
 use lib.ListN.{length, take, set, replicate, length-append, length-take, length-set, length-replicate}
 use lib.Seq.{take-suc-set, take-set-lt}
-use mir.Val.{Val}
-use denote.Laws.{Is}
-use denote.Struct.Declared as Declared
-use Rattle.planner.proofs.Laws as law
 use Rattle.machine.specs.declared.Frame.{Frame}
 use Rattle.machine.specs.declared.Last.{Last}
-use Rattle.machine.specs.declared.Port.{Port}
-use Rattle.machine.proofs.Port as port
 use Rattle.machine.specs.State.{Instant, never, waiting, instantOf}
 use Rattle.port.proofs.Walk.{zeroLast}
 
@@ -48,7 +42,3 @@ map-set (x ∷ ls) (suc k) l = ap (λ (is : List Instant). instantOf x ∷ is) (
 -- the last instant of a row in use is set
 pub instant-set : (ls : List Last) (n k : ℕ) (l : Last) → k < n → map instantOf (take n (set ls k l)) ≡ set (map instantOf (take n ls)) k (instantOf l)
 instant-set ls n k l h = rw (take-set-lt n ls k l h) (map-set (take n ls) k l)
-
--- the table of a port has 32 places
-pub port-rows : (p : Port) (vs : List Val) → Is (Declared.row port.the-type) p vs → length (p .table .rows) ≡ 32
-port-rows p vs h = law.places (p .table) _ (h .1 .1 .0)

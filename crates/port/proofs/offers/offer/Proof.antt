@@ -13,8 +13,7 @@ use Rattle.machine.specs.declared.Port.{Port}
 use Rattle.machine.specs.State.{instantOf, view}
 use Rattle.machine.specs.Record.{sound}
 use Rattle.machine.specs.Calls.{tooSoon, early}
-use Rattle.port.proofs.Walk.{zeroLast}
-use Rattle.port.proofs.Waits.{port-rows}
+use Rattle.port.proofs.Walk.{zeroLast, port-places}
 use Rattle.port.proofs.Judged.{broken, no-such-row, too-large, too-early, passes, few-rows, row-count, in-use, row-is, not-after, early-is, room-a, room-b, row-refused, row-accepted}
 use borrow.Author.Needs.{needs}
 use Rattle.port.proofs.offers.offer.Statement.{statement}
@@ -25,7 +24,7 @@ sound-here : (c : tie.Else1) → sound (view (c .before .before .args .t1)) ≡ 
 sound-here c = sym (c .before .is-sound .ensures) ∙ not-false _ (c .if1 .left)
 
 places-here : (s : tie.Start) → length (s .args .t1 .table .rows) ≡ 32
-places-here s = port-rows (s .args .t1) _ (s .good .0)
+places-here s = port-places (s .args .t1) _ (s .good .0) .rows
 
 -- ---- past the check of the row's number
 module _ (c : tie.Else2) where

@@ -13,7 +13,8 @@ use Rattle.machine.specs.declared.Queue.{Queue}
 use Rattle.machine.specs.declared.Port.{Port}
 use Rattle.machine.specs.State.{queue, waiting, view}
 use Rattle.machine.specs.Calls.{joined}
-use Rattle.port.proofs.Waits.{instant-set, port-rows}
+use Rattle.port.proofs.Waits.{instant-set}
+use Rattle.port.proofs.Walk.{port-places}
 use borrow.Author.Needs.{needs}
 use Rattle.port.proofs.offers.row_joined.Statement.{statement}
 use Rattle.port.proofs.offers.row_joined.Tie as tie
@@ -50,7 +51,7 @@ pushed-requires-2 : tie.Need-pushed-requires-2
 pushed-requires-2 c κs = search needs
 
 in-use : (s : tie.Start) → s .args .f .source < length (rowsOf (s .args .p .table))
-in-use s = rw (law.rows-length (s .args .p .table) (port-rows (s .args .p) _ (s .good .0)) (s .pre .0)) (s .pre .1 .0)
+in-use s = rw (law.rows-length (s .args .p .table) (port-places (s .args .p) _ (s .good .0) .rows) (s .pre .0)) (s .pre .1 .0)
 
 returns : tie.Need-returns
 unfolding view

@@ -8,7 +8,7 @@ use Rattle.planner.proofs.Laws as law
 use Rattle.machine.specs.declared.Port.{Port}
 use Rattle.machine.specs.State.{State, view}
 use Rattle.machine.specs.Calls.{joined, takeRow}
-use Rattle.port.proofs.Waits.{port-rows}
+use Rattle.port.proofs.Walk.{port-places}
 use borrow.Author.Needs.{needs}
 use Rattle.port.proofs.offers.row_taken.Statement.{statement}
 use Rattle.port.proofs.offers.row_taken.Tie as tie
@@ -38,7 +38,7 @@ row-joined-requires c κs = search needs
 returns : tie.Need-returns
 returns c =
     let s = c .before .before .before .before in
-    takes-row (s .args .p) (s .args .k) (s .args .payload) (c .before .size-for .result) _ (port-rows (s .args .p) _ (s .good .0)) (s .pre .0) (s .pre .1 .0) (c .before .size-for .ensures .0) (c .row-joined .ensures)
+    takes-row (s .args .p) (s .args .k) (s .args .payload) (c .before .size-for .result) _ (port-places (s .args .p) _ (s .good .0) .rows) (s .pre .0) (s .pre .1 .0) (c .before .size-for .ensures .0) (c .row-joined .ensures)
 
 pub row-taken-spec : {M : Type 1} → statement M
 row-taken-spec =
