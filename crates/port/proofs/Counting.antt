@@ -15,7 +15,8 @@ use Rattle.machine.specs.declared.Wire.{Wire}
 use Rattle.machine.specs.Record.{count, inQueue, sending, upTo}
 use Rattle.machine.proofs.FromSound.{up-to-true}
 use Rattle.port.specs.Steps.{Counts, Counted}
-use Rattle.port.proofs.Walk.{zeroFrame, next}
+use Rattle.port.specs.Bytes.{zeroFrame}
+use Rattle.port.proofs.Walk.{next}
 
 -- ---- one frame more
 module _ (counts : List ℕ) (source : ℕ) where

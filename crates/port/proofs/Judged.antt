@@ -1,9 +1,9 @@
--- What an offer's checks say of a record, what a sound record has for the code, and what an offer then gives.
-use Prim.Native.Nat.{ℕ, zero, suc, _≤_, _<_}
+-- What a call's checks say of a record, what a sound record has for the code, and what a call then gives.
+use Prim.Native.Nat.{ℕ, zero, suc, _+_, _≤_, _<_}
 use mathlib.Core.Bool.{true, false}
 use mathlib.Core.List.{List, [], _∷_, map}
 use mathlib.Core.Path.{_≡_, refl, sym, subst}
-use borrow.Author.Tests.{lt-ltb, le-ltb, le-leb, lt-leb}
+use borrow.Author.Tests.{lt-ltb, le-ltb, le-leb, lt-leb, leb-true}
 use lib.ListN.{length, getD, take}
 use Rattle.planner.specs.declared.Class.the-variants.{A, B}
 use Rattle.planner.specs.Wire.{periodOf}
@@ -14,11 +14,12 @@ use Rattle.machine.specs.declared.Denial.{Denial}
 use Rattle.machine.specs.declared.Offer.the-variants as offers
 use Rattle.machine.specs.declared.Port.{Port}
 use Rattle.machine.specs.declared.AfterOffer.{AfterOffer}
+use Rattle.machine.specs.declared.AfterAdvance.{AfterAdvance}
 use Rattle.machine.specs.State.{Instant, never, State, instantOf, view}
-use Rattle.machine.specs.Record.{notAfter, noneAfter, rowsTaken, sound}
-use Rattle.machine.specs.Calls.{Call, offer, offerBest, denied, tooSoon, early, offerCheck, bestCheck, takeRow, takeBest, after, answer, numberOf, offerAnswer, Gives, Offered, OfferedBest}
+use Rattle.machine.specs.Record.{lastClock, notAfter, noneAfter, clockSound, rowsTaken, sound}
+use Rattle.machine.specs.Calls.{Call, offer, offerBest, advance, denied, tooSoon, early, offerCheck, bestCheck, advanceCheck, takeRow, takeBest, after, answer, numberOf, offerAnswer, advanceAnswer, Gives, Offered, OfferedBest, Advanced}
 use Rattle.machine.proofs.FromSound.{and-true, clauses, is-accepted, place-left}
-use Rattle.port.specs.Steps.{refusal}
+use Rattle.port.specs.Steps.{refusal, stay, Progressed}
 use Rattle.port.proofs.Walk.{zeroLast, instant-at}
 use Rattle.port.proofs.Waits.{waiting-length}
 
@@ -65,6 +66,25 @@ module _ (s : State) (x : ℕ) where
     unfolding bestCheck
     best-passes h f = rw (ok, le-leb x (s .table .payload) h, lt-ltb (length (s .best)) 16 f) refl
 
+-- ---- and of an advance's
+module _ (s : State) (n : ℕ) where
+  pub advance-broken : sound s ≡ false → advanceCheck s n ≡ refused 18 0
+  unfolding advanceCheck
+  advance-broken e = rw e refl
+
+  module _ (ok : sound s ≡ true) where
+    pub too-many-steps : 65535 < n → advanceCheck s n ≡ refused 15 0
+    unfolding advanceCheck
+    too-many-steps h = rw (ok, lt-leb n 65535 h) refl
+
+    pub past-last-clock : n ≤ 65535 → lastClock < s .clock + n → advanceCheck s n ≡ refused 16 0
+    unfolding advanceCheck
+    past-last-clock h g = rw (ok, le-leb n 65535 h, lt-leb (s .clock + n) lastClock g) refl
+
+    pub advance-passes : n ≤ 65535 → s .clock + n ≤ lastClock → advanceCheck s n ≡ accepted
+    unfolding advanceCheck
+    advance-passes h g = rw (ok, le-leb n 65535 h, le-leb (s .clock + n) lastClock g) refl
+
 -- ---- the same by the record's own parts
 none-after : (now : ℕ) (is : List Instant) → noneAfter now is ≡ true → (k : ℕ) → notAfter now (getD is k never) ≡ true
 none-after now [] e k = refl
@@ -80,7 +100,15 @@ module _ (p : Port) where
   unfolding view
   table-of = refl
 
+  pub clock-of : view p .clock ≡ p .clock
+  unfolding view
+  clock-of = refl
+
   module _ (ok : sound (view p) ≡ true) where
+    pub clock-most : p .clock ≤ lastClock
+    unfolding view clockSound
+    clock-most = leb-true (p .clock) lastClock (clauses (view p) ok .clock)
+
     pub few-rows : p .table .count ≤ 32
     few-rows = rw table-of at (is-accepted (view p) (clauses (view p) ok) .most)
 
@@ -122,7 +150,7 @@ module _ (p : Port) where
           unfolding view
           room-b = rw (waiting-length (p .b .count) (p .b .frames)) at (place-left (view p) (clauses (view p) ok) k in-use late B)
 
--- ---- what an offer gives
+-- ---- what a call gives
 refuses : (p : Port) (c : Call) (d : Denial) (r : AfterOffer) → answer (view p) c ≡ denied (numberOf d) 0 → after (view p) c ≡ view p → r ≡ refusal p d → Gives p c (offerAnswer (r .answer)) (r .port)
 refuses p c d r a v e = subst (λ (z : AfterOffer). Gives p c (offerAnswer (z .answer)) (z .port)) (sym e) (record { answer = sym a; port = sym v; kept = refl })
 
@@ -139,3 +167,10 @@ module _ (p : Port) (x : ℕ) where
 
   pub best-accepted : (q : Port) → bestCheck (view p) x ≡ accepted → view q ≡ takeBest x (view p) → OfferedBest p x (record { answer = offers.Taken; port = q })
   best-accepted q e v = record { answer = rw e refl; port = rw e v; kept = tt }
+
+module _ (p : Port) (n : ℕ) where
+  pub advance-refused : (d : Denial) (r : AfterAdvance) → advanceCheck (view p) n ≡ refused (numberOf d) 0 → r ≡ stay p d → Advanced p n r
+  advance-refused d r e q = subst (λ (z : AfterAdvance). Gives p (advance n) (advanceAnswer (z .answer)) (z .port)) (sym q) (record { answer = rw e refl; port = rw e refl; kept = refl })
+
+  pub advance-accepted : (r : AfterAdvance) → advanceCheck (view p) n ≡ accepted → Progressed p n r → Advanced p n r
+  advance-accepted r e g = record { answer = rw e (g .answer); port = rw e (g .port); kept = rw (g .answer) tt }

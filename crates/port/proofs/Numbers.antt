@@ -8,31 +8,21 @@ use lib.Dec.{leb}
 use lib.Signed.{mag}
 use mir.Syntax.{w64}
 use mir.Val.{SFits, toZ, ofZ}
+use Rattle.port.specs.declared.Sender.{Sender}
+use Rattle.port.specs.declared.Sender.the-variants.{Nobody, ClassA, ClassB, BestEffort}
 use Rattle.port.specs.declared.Hot.{Hot}
 use Rattle.port.specs.declared.Fixed.{Fixed}
 use Rattle.port.specs.declared.Ran.{Ran}
-use Rattle.port.specs.Bytes.{creditAfter, isA, isB, isNobody, readyBy, goesA, goesB, goesBest, onFree, startedHot, passedHot, tickHot, endedHot, furtherHot, onwardHot, runHot, Near}
+use Rattle.port.specs.Bytes.{creditAfter, isA, isB, isNobody, readyBy, goesA, goesB, goesBest, nextBy, goes, onFree, startedHot, passedHot, tickHot, endedHot, furtherHot, onwardHot, runHot, Near}
 use Rattle.port.proofs.Signs.{plain, mag-after}
 
 -- ---- who goes out
 pub is-ready : {b : Bool} (z : ℤ) (waits : Bool) → SFits w64 z → b ≡ readyBy (toZ w64 (ofZ w64 z)) waits → readyBy z waits ≡ b
 is-ready z waits f e = sym (rw (plain f) at e)
 
-pub a-goes : (h : Hot) (x : Fixed) → readyBy (h .credita) (h .waitsa) ≡ true → goesA h x ≡ onFree h x
+pub goes-by : (h : Hot) (x : Fixed) (w : Sender) {v : Sender} {a b : Bool} → v ≡ w → readyBy (h .credita) (h .waitsa) ≡ a → readyBy (h .creditb) (h .waitsb) ≡ b → v ≡ nextBy a b (h .waitsbest) → goes w h x ≡ onFree h x
 unfolding onFree
-a-goes h x e = rw e refl
-
-pub b-goes : (h : Hot) (x : Fixed) → readyBy (h .credita) (h .waitsa) ≡ false → readyBy (h .creditb) (h .waitsb) ≡ true → goesB h x ≡ onFree h x
-unfolding onFree
-b-goes h x e f = rw (e, f) refl
-
-pub best-goes : (h : Hot) (x : Fixed) → readyBy (h .credita) (h .waitsa) ≡ false → readyBy (h .creditb) (h .waitsb) ≡ false → h .waitsbest ≡ true → goesBest h x ≡ onFree h x
-unfolding onFree
-best-goes h x e f g = rw (e, f, g) refl
-
-pub none-goes : (h : Hot) (x : Fixed) → readyBy (h .credita) (h .waitsa) ≡ false → readyBy (h .creditb) (h .waitsb) ≡ false → h .waitsbest ≡ false → h ≡ onFree h x
-unfolding onFree
-none-goes h x e f g = rw (e, f, g) refl
+goes-by h x w e ea eb n = rw (ea, eb, ← n, e) refl
 
 pub starts : (h : Hot) (x : Fixed) → isNobody (h .sender) ≡ true → onFree h x ≡ startedHot h x
 unfolding startedHot
@@ -57,10 +47,16 @@ one-of false P p q = q
 
 near-free : {m : ℕ} {h : Hot} {x : Fixed} → Near m h x → Near m (onFree h x) x
 unfolding onFree
-near-free {m} {h} {x} n = one-of (readyBy (h .credita) (h .waitsa)) (λ g. Near m g x) (same (goesA h x) refl refl) (one-of (readyBy (h .creditb) (h .waitsb)) (λ g. Near m g x) (same (goesB h x) refl refl) (one-of (h .waitsbest) (λ g. Near m g x) (same (goesBest h x) refl refl) n))
+near-free {m} {h} {x} n = by-next (nextBy (readyBy (h .credita) (h .waitsa)) (readyBy (h .creditb) (h .waitsb)) (h .waitsbest))
   where
     same : (g : Hot) → g .credita ≡ h .credita → g .creditb ≡ h .creditb → Near m g x
     same g e f = record { idlea = n .idlea; senda = n .senda; idleb = n .idleb; sendb = n .sendb; credita = rw e (n .credita); creditb = rw f (n .creditb) }
+
+    by-next : (w : Sender) → Near m (goes w h x) x
+    by-next Nobody = n
+    by-next ClassA = same (goesA h x) refl refl
+    by-next ClassB = same (goesB h x) refl refl
+    by-next BestEffort = same (goesBest h x) refl refl
 
 pub near-started : {m : ℕ} {h : Hot} {x : Fixed} → Near m h x → Near m (startedHot h x) x
 unfolding startedHot

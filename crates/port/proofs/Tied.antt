@@ -23,25 +23,12 @@ use Rattle.port.specs.declared.Sender.the-variants.{Nobody, ClassA, Clas
 use Rattle.port.specs.declared.Hot.{Hot}
 use Rattle.port.specs.declared.Fixed.{Fixed}
 use Rattle.port.specs.declared.Ran.{Ran}
-use Rattle.port.specs.Bytes.{earnedBy, settledBy, creditAfter, isA, isB, isNobody, readyBy, goesA, goesB, goesBest, onFree, startedHot, passedHot, tickHot, endedHot, furtherHot, onwardHot, runHot}
+use Rattle.port.specs.Bytes.{earnedBy, settledBy, creditAfter, isA, isB, isBest, isNobody, readyBy, goesA, goesB, goesBest, nextBy, goes, onFree, startedHot, passedHot, tickHot, endedHot, furtherHot, onwardHot, runHot, wireBy, wireNow}
 
 -- a queue has a frame
 abbrev pub some : List Frame → Bool
 some [] = false
 some (f ∷ fs) = true
-
-abbrev pub isBest : Sender → Bool
-isBest Nobody = false
-isBest ClassA = false
-isBest ClassB = false
-isBest BestEffort = true
-
--- the wire of a sender
-abbrev pub wireBy : Sender → Frame → ℕ → Wire
-wireBy Nobody f left = Free
-wireBy ClassA f left = Sending f left
-wireBy ClassB f left = Sending f left
-wireBy BestEffort f left = Sending f left
 
 -- the sender of a frame, by its owner
 abbrev pub Owned : Sender → Owner → Type 0
@@ -105,10 +92,6 @@ still-for B Nobody t f left e = refl
 still-for c ClassA t f left e = after-byte c t f left (isOf c ClassA) (sends-for c ClassA t f left e)
 still-for c ClassB t f left e = after-byte c t f left (isOf c ClassB) (sends-for c ClassB t f left e)
 still-for c BestEffort t f left e = after-byte c t f left (isOf c BestEffort) (sends-for c BestEffort t f left e)
-
--- the wire of the numbers: free once the frame has ended
-abbrev pub wireNow : Sender → Frame → ℕ → Wire
-wireNow w f left = cond (not (isNobody w) && leb left 0) Free (wireBy w f left)
 
 one-byte : (f : Frame) (left : ℕ) → wireAfter (Sending f left) ≡ cond (leb (left - 1) 0) Free (Sending f (left - 1))
 one-byte f zero = refl
@@ -237,7 +220,7 @@ free-tied : (s : State) (h : Hot) (x : Fixed) → Tied s h x → Heads s h x →
 unfolding onFree
 free-tied s h x t k w = a-first (readyBy (h .credita) (h .waitsa)) (readyBy (h .creditb) (h .waitsb)) (h .waitsbest) refl refl refl (same-ready (s .credita) (s .a) ∙ rw (t .credita, t .waitsa) refl) (same-ready (s .creditb) (s .b) ∙ rw (t .creditb, t .waitsb) refl)
   where
-    a-first : (ra rb rc : Bool) → readyBy (h .credita) (h .waitsa) ≡ ra → readyBy (h .creditb) (h .waitsb) ≡ rb → h .waitsbest ≡ rc → ready (s .credita) (s .a) ≡ ra → ready (s .creditb) (s .b) ≡ rb → Tied (startOn Free s) (cond ra (goesA h x) (cond rb (goesB h x) (cond rc (goesBest h x) h))) x
+    a-first : (ra rb rc : Bool) → readyBy (h .credita) (h .waitsa) ≡ ra → readyBy (h .creditb) (h .waitsb) ≡ rb → h .waitsbest ≡ rc → ready (s .credita) (s .a) ≡ ra → ready (s .creditb) (s .b) ≡ rb → Tied (startOn Free s) (goes (nextBy ra rb rc) h x) x
     a-first true rb rc e f g ea eb = rw ea (a-tied s h x t k (is-waiting (h .credita) (h .waitsa) e))
     a-first false true rc e f g ea eb = rw (ea, eb) (b-tied s h x t k (is-waiting (h .creditb) (h .waitsb) f))
     a-first false false true e f g ea eb = rw (ea, eb) (best-tied s h x t k g)
@@ -273,25 +256,26 @@ byte-tied s h x t e =
     }
 
 -- a frame that has just started has bytes left
-goes-on : (b : Bool) (P : Hot → Type 0) {g h : Hot} → (b ≡ true → P g) → (b ≡ false → P h) → P (cond b g h)
-goes-on true P p q = p refl
-goes-on false P p q = q refl
-
 not-yet : (f : Frame) → 1 ≤ f .size → leb (f .size) 0 ≡ false
 not-yet f h = lt-leb (f .size) 0 (omega arith)
 
-pub starts-whole : (s : State) (h : Hot) (x : Fixed) → endedHot h ≡ false → (isNobody (h .sender) ≡ true → Heads s h x) → endedHot (startedHot h x) ≡ false
-unfolding startedHot endedHot onFree
-starts-whole s h x e k =
-    goes-on (isNobody (h .sender)) Whole
-    (λ n.
-    goes-on (readyBy (h .credita) (h .waitsa)) Whole (λ r. not-yet (x .heada) (k n .a .size (is-waiting (h .credita) (h .waitsa) r)))
-    (λ _. goes-on (readyBy (h .creditb) (h .waitsb)) Whole (λ r. not-yet (x .headb) (k n .b .size (is-waiting (h .creditb) (h .waitsb) r)))
-    (λ _. goes-on (h .waitsbest) Whole (λ r. not-yet (x .headbest) (k n .best .size r)) (λ _. e))))
-    (λ _. e)
+free-whole : (s : State) (h : Hot) (x : Fixed) → endedHot h ≡ false → Heads s h x → endedHot (onFree h x) ≡ false
+unfolding onFree endedHot
+free-whole s h x e k = a-first (readyBy (h .credita) (h .waitsa)) (readyBy (h .creditb) (h .waitsb)) (h .waitsbest) refl refl refl
   where
-    Whole : Hot → Type 0
-    Whole g = not (isNobody (g .sender)) && leb (g .left) 0 ≡ false
+    a-first : (ra rb rc : Bool) → readyBy (h .credita) (h .waitsa) ≡ ra → readyBy (h .creditb) (h .waitsb) ≡ rb → h .waitsbest ≡ rc → endedHot (goes (nextBy ra rb rc) h x) ≡ false
+    a-first true rb rc ea eb ec = not-yet (x .heada) (k .a .size (is-waiting (h .credita) (h .waitsa) ea))
+    a-first false true rc ea eb ec = not-yet (x .headb) (k .b .size (is-waiting (h .creditb) (h .waitsb) eb))
+    a-first false false true ea eb ec = not-yet (x .headbest) (k .best .size ec)
+    a-first false false false ea eb ec = e
+
+pub starts-whole : (s : State) (h : Hot) (x : Fixed) → endedHot h ≡ false → (isNobody (h .sender) ≡ true → Heads s h x) → endedHot (startedHot h x) ≡ false
+unfolding startedHot
+starts-whole s h x e k = if-free (isNobody (h .sender)) refl
+  where
+    if-free : (b : Bool) → isNobody (h .sender) ≡ b → endedHot (cond b (onFree h x) h) ≡ false
+    if-free true n = free-whole s h x e (k n)
+    if-free false n = e
 
 -- one byte-time, and the frame that ends in it
 pub tick-tied : (s : State) (h : Hot) (x : Fixed) → Tied s h x → endedHot h ≡ false → (isNobody (h .sender) ≡ true → Heads s h x) → Tied (byteTime s) (tickHot h x) x
@@ -352,7 +336,7 @@ free-from : (s₀ s : State) (h : Hot) (x : Fixed) → Tied s h x → From s₀ 
 unfolding onFree
 free-from s₀ s h x t k n = a-first (readyBy (h .credita) (h .waitsa)) (readyBy (h .creditb) (h .waitsb)) (h .waitsbest) refl (same-ready (s .credita) (s .a) ∙ rw (t .credita, t .waitsa) refl) (same-ready (s .creditb) (s .b) ∙ rw (t .creditb, t .waitsb) refl)
   where
-    a-first : (ra rb rc : Bool) → h .waitsbest ≡ rc → ready (s .credita) (s .a) ≡ ra → ready (s .creditb) (s .b) ≡ rb → From s₀ (startOn Free s) (cond ra (goesA h x) (cond rb (goesB h x) (cond rc (goesBest h x) h)))
+    a-first : (ra rb rc : Bool) → h .waitsbest ≡ rc → ready (s .credita) (s .a) ≡ ra → ready (s .creditb) (s .b) ≡ rb → From s₀ (startOn Free s) (goes (nextBy ra rb rc) h x)
     a-first true rb rc g ea eb = rw ea (record { table = k .table; last = k .last; a = ap (λ (q : List Frame). behindHead q) (whole-a s₀ s h k n); b = whole-b s₀ s h k n; best = whole-best s₀ s h k n; waits = k .waits; idle = λ e. someone e })
     a-first false true rc g ea eb = rw (ea, eb) (record { table = k .table; last = k .last; a = whole-a s₀ s h k n; b = ap (λ (q : List Frame). behindHead q) (whole-b s₀ s h k n); best = whole-best s₀ s h k n; waits = k .waits; idle = λ e. someone e })
     a-first false false true g ea eb = rw (ea, eb) (record { table = k .table; last = k .last; a = whole-a s₀ s h k n; b = whole-b s₀ s h k n; best = ap (λ (q : List Frame). behindHead q) (whole-best s₀ s h k n); waits = k .waits; idle = λ e. someone e })

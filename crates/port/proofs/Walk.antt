@@ -13,6 +13,7 @@ use denote.Laws.{Is}
 use denote.Array.{Array}
 use denote.Struct.Declared as Declared
 use Rattle.machine.specs.declared.Frame.{Frame}
+use Rattle.port.specs.Bytes.{zeroFrame}
 use Rattle.machine.specs.declared.Last.{Last}
 use Rattle.machine.specs.declared.Queue.{Queue}
 use Rattle.machine.specs.declared.BestQueue.{BestQueue}
@@ -25,9 +26,6 @@ use Rattle.machine.proofs.Last as last
 use Rattle.machine.proofs.Port as port
 
 -- what an unused place may hold in a proof
-abbrev pub zeroFrame : Frame
-zeroFrame = record { source = 0; size = 0; taken = 0 }
-
 abbrev pub zeroLast : Last
 zeroLast = record { known = false; taken = 0 }
 

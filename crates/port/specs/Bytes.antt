@@ -4,10 +4,17 @@ use mathlib.Core.Bool.{Bool, true, false, not, cond, _&&_}
 use mathlib.Core.List.{List, [], _∷_}
 use mathlib.Core.Path.{_≡_}
 use lib.Dec.{leb}
+use lib.ListN.{getD}
 use lib.Signed.{mag}
 use lib.IntN.{ℤ, pos, negsuc, _+ℤ_, _-ℤ_}
+use Rattle.planner.specs.declared.Class.the-variants.{A, B}
+use Rattle.planner.specs.Rows.{idle, send}
 use Rattle.machine.specs.declared.Frame.{Frame}
-use Rattle.machine.specs.Time.{upToZero, rise}
+use Rattle.machine.specs.declared.Wire.{Wire}
+use Rattle.machine.specs.declared.Wire.the-variants.{Free, Sending}
+use Rattle.machine.specs.declared.Port.{Port}
+use Rattle.machine.specs.State.{State}
+use Rattle.machine.specs.Time.{Owner, shaped, unshaped, owner, upToZero, rise, behindHead}
 use Rattle.port.specs.declared.Sender.{Sender}
 use Rattle.port.specs.declared.Sender.the-variants.{Nobody, ClassA, ClassB, BestEffort}
 use Rattle.port.specs.declared.Hot.{Hot}
@@ -40,6 +47,12 @@ isB ClassA = false
 isB ClassB = true
 isB BestEffort = false
 
+abbrev pub isBest : Sender → Bool
+isBest Nobody = false
+isBest ClassA = false
+isBest ClassB = false
+isBest BestEffort = true
+
 abbrev pub isNobody : Sender → Bool
 isNobody Nobody = true
 isNobody ClassA = false
@@ -60,8 +73,18 @@ goesB h x = record { credita = h .credita; creditb = h .creditb; sender = ClassB
 abbrev pub goesBest : Hot → Fixed → Hot
 goesBest h x = record { credita = h .credita; creditb = h .creditb; sender = BestEffort; frame = x .headbest; left = x .headbest .size; moved = true; waitsa = h .waitsa; waitsb = h .waitsb; waitsbest = h .waitsbest }
 
+-- Whose head goes out, by which heads may.
+abbrev pub nextBy : Bool → Bool → Bool → Sender
+nextBy a b best = cond a ClassA (cond b ClassB (cond best BestEffort Nobody))
+
+abbrev pub goes : Sender → Hot → Fixed → Hot
+goes Nobody h x = h
+goes ClassA h x = goesA h x
+goes ClassB h x = goesB h x
+goes BestEffort h x = goesBest h x
+
 unfoldable pub onFree : Hot → Fixed → Hot
-onFree h x = cond (readyBy (h .credita) (h .waitsa)) (goesA h x) (cond (readyBy (h .creditb) (h .waitsb)) (goesB h x) (cond (h .waitsbest) (goesBest h x) h))
+onFree h x = goes (nextBy (readyBy (h .credita) (h .waitsa)) (readyBy (h .creditb) (h .waitsb)) (h .waitsbest)) h x
 
 unfoldable pub startedHot : Hot → Fixed → Hot
 startedHot h x = cond (isNobody (h .sender)) (onFree h x) h
@@ -107,3 +130,79 @@ pub record Near (most : ℕ) (h : Hot) (x : Fixed) : Type 0 where
   pub sendb : x .sendb ≤ 1000000
   pub credita : mag (h .credita) ≤ most
   pub creditb : mag (h .creditb) ≤ most
+
+-- The numbers of a record: those that byte-times leave alone, and those that they change.
+abbrev pub zeroFrame : Frame
+zeroFrame = record { source = 0; size = 0; taken = 0 }
+
+abbrev pub firstOf : List Frame → Frame
+firstOf places = getD places 0 zeroFrame
+
+unfoldable pub fixedOf : Port → Fixed
+fixedOf p =
+    record {
+      idlea = idle A (p .table);
+      senda = send A (p .table);
+      idleb = idle B (p .table);
+      sendb = send B (p .table);
+      heada = firstOf (p .a .frames);
+      headb = firstOf (p .b .frames);
+      headbest = firstOf (p .best .frames);
+      morea = leb 2 (p .a .count);
+      moreb = leb 2 (p .b .count);
+    }
+
+abbrev pub senderOf : Owner → Sender
+senderOf (shaped A) = ClassA
+senderOf (shaped B) = ClassB
+senderOf unshaped = BestEffort
+
+abbrev pub hotWith : Port → Sender → Frame → ℕ → Hot
+hotWith p w f left =
+    record {
+      credita = p .credita;
+      creditb = p .creditb;
+      sender = w;
+      frame = f;
+      left = left;
+      moved = false;
+      waitsa = leb 1 (p .a .count);
+      waitsb = leb 1 (p .b .count);
+      waitsbest = leb 1 (p .best .count);
+    }
+
+abbrev pub hotOn : Port → Wire → Hot
+hotOn p Free = hotWith p Nobody zeroFrame 0
+hotOn p (Sending f left) = hotWith p (senderOf (owner (p .table) f)) f left
+
+unfoldable pub hotOf : Port → Hot
+hotOf p = hotOn p (p .wire)
+
+-- The wire of the numbers: free once the frame has ended.
+abbrev pub wireBy : Sender → Frame → ℕ → Wire
+wireBy Nobody f left = Free
+wireBy ClassA f left = Sending f left
+wireBy ClassB f left = Sending f left
+wireBy BestEffort f left = Sending f left
+
+abbrev pub wireNow : Sender → Frame → ℕ → Wire
+wireNow w f left = cond (not (isNobody w) && leb left 0) Free (wireBy w f left)
+
+-- A queue whose head went out has those behind it.
+abbrev pub queueAfter : Bool → List Frame → List Frame
+queueAfter gone q = cond gone (behindHead q) q
+
+-- The port after a run of byte-times on its numbers.
+unfoldable pub afterRun : State → Ran → State
+afterRun s r =
+    record {
+      table = s .table;
+      clock = s .clock + r .passed;
+      credita = r .hot .credita;
+      creditb = r .hot .creditb;
+      a = queueAfter (r .hot .moved && isA (r .hot .sender)) (s .a);
+      b = queueAfter (r .hot .moved && isB (r .hot .sender)) (s .b);
+      best = queueAfter (r .hot .moved && isBest (r .hot .sender)) (s .best);
+      last = s .last;
+      wire = wireNow (r .hot .sender) (r .hot .frame) (r .hot .left);
+    }

@@ -13,12 +13,18 @@ use Rattle.planner.specs.Wire.{sizeOf}
 use Rattle.planner.specs.Rows.{rowsOf, rowAt, inClass, bestSize}
 use Rattle.planner.specs.Bound.{bound}
 use Rattle.machine.specs.declared.Frame.{Frame}
+use Rattle.machine.specs.declared.Ended.the-variants.{Reported, Nothing}
 use Rattle.machine.specs.declared.Denial.{Denial}
 use Rattle.machine.specs.declared.Offer.the-variants as offers
 use Rattle.machine.specs.declared.Port.{Port}
+use Rattle.machine.specs.declared.Advance.the-variants as advances
 use Rattle.machine.specs.declared.AfterOffer.{AfterOffer}
-use Rattle.machine.specs.State.{Instant, never, State}
+use Rattle.machine.specs.declared.AfterAdvance.{AfterAdvance}
+use Rattle.port.specs.declared.Ran.{Ran}
+use Rattle.machine.specs.State.{Instant, never, State, view}
+use Rattle.machine.specs.Time.{progress}
 use Rattle.machine.specs.Record.{allOf, onSending, isAt, clockSound, creditSound, rowsTaken, singleSound}
+use Rattle.machine.specs.Calls.{passed, advanceAnswer}
 
 -- A row's frame by its row, the row's last instant and bound: of the class, of a fitting size, taken at that instant and not after the clock, younger than the bound.
 unfoldable pub rowTest : Class → Frame → Row → Instant → ℕ → ℕ → Bool
@@ -63,3 +69,16 @@ Counted more before after = (k : ℕ) → k < 32 → getD after k 0 ≡ getD bef
 -- A refused offer: the record as it was.
 abbrev pub refusal : Port → Denial → AfterOffer
 refusal p d = record { answer = offers.Refused d; port = p }
+
+-- A refused advance.
+abbrev pub stay : Port → Denial → AfterAdvance
+stay p d = record { answer = advances.Refused d; port = p }
+
+-- What an advance gives back after a run on numbers.
+abbrev pub ranTo : Ran → Port → AfterAdvance
+ranTo r p = record { answer = advances.Passed (r .passed) (cond (r .ended) (Reported (r .hot .frame)) Nothing); port = p }
+
+-- An advance of a sound record that is not refused: the machine's progress.
+pub record Progressed (p : Port) (n : ℕ) (r : AfterAdvance) : Type 0 where
+  pub answer : advanceAnswer (r .answer) ≡ passed (progress n (view p) .passed) (progress n (view p) .ended)
+  pub port : view (r .port) ≡ progress n (view p) .state

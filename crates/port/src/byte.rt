@@ -5,7 +5,7 @@ ghost use mathlib.Core.Bool.{_&&_};
 ghost use lib.Dec.{leb};
 ghost use lib.Signed.{mag};
 ghost use Rattle.machine.specs.Time.{upToZero};
-ghost use Rattle.port.specs.Bytes.{settledBy, creditAfter, isA, isB, isNobody, readyBy, goesA, goesB, goesBest, onFree, startedHot, passedHot, tickHot, endedHot, runHot, Near};
+ghost use Rattle.port.specs.Bytes.{settledBy, creditAfter, isA, isB, isBest, isNobody, readyBy, goesA, goesB, goesBest, nextBy, onFree, startedHot, passedHot, tickHot, endedHot, runHot, Near};
 use crate::Fixed;
 use crate::Hot;
 use crate::Ran;
@@ -55,7 +55,7 @@ fn credit_after(on: bool, still: bool, waits: bool, idle: u32, send: u32, credit
     lowered(still, waits, up_to_zero(credit + idle as i64))
 }
 
-fn is_a(s: Sender) -> bool
+pub fn is_a(s: Sender) -> bool
     ensures { λ r. ⌜ r ≡ isA s ⌝ }
 {
     match s {
@@ -66,7 +66,7 @@ fn is_a(s: Sender) -> bool
     }
 }
 
-fn is_b(s: Sender) -> bool
+pub fn is_b(s: Sender) -> bool
     ensures { λ r. ⌜ r ≡ isB s ⌝ }
 {
     match s {
@@ -77,7 +77,18 @@ fn is_b(s: Sender) -> bool
     }
 }
 
-fn is_nobody(s: Sender) -> bool
+pub fn is_best(s: Sender) -> bool
+    ensures { λ r. ⌜ r ≡ isBest s ⌝ }
+{
+    match s {
+        Sender::Nobody => false,
+        Sender::ClassA => false,
+        Sender::ClassB => false,
+        Sender::BestEffort => true,
+    }
+}
+
+pub fn is_nobody(s: Sender) -> bool
     ensures { λ r. ⌜ r ≡ isNobody s ⌝ }
 {
     match s {
@@ -152,20 +163,35 @@ fn goes_best(h: Hot, x: Fixed) -> Hot
     }
 }
 
-// On a free wire a head goes out: A's, or else B's, or else the best-effort one.
+// Whose head goes out on a free wire, by which heads may: A's, or else B's, or else the best-effort one.
+fn next(a: bool, b: bool, best: bool) -> Sender
+    ensures { λ r. ⌜ r ≡ nextBy a b best ⌝ }
+{
+    if a {
+        return Sender::ClassA;
+    }
+    if b {
+        return Sender::ClassB;
+    }
+    if best {
+        return Sender::BestEffort;
+    }
+    Sender::Nobody
+}
+
+// On a free wire the next head goes out.
 fn on_free(h: Hot, x: Fixed) -> Hot
     ensures { λ r. ⌜ r ≡ onFree h x ⌝ }
 {
-    if ready(h.credita, h.waitsa) {
-        return goes_a(h, x);
+    let a = ready(h.credita, h.waitsa);
+    let b = ready(h.creditb, h.waitsb);
+    let who = next(a, b, h.waitsbest);
+    match who {
+        Sender::Nobody => h,
+        Sender::ClassA => goes_a(h, x),
+        Sender::ClassB => goes_b(h, x),
+        Sender::BestEffort => goes_best(h, x),
     }
-    if ready(h.creditb, h.waitsb) {
-        return goes_b(h, x);
-    }
-    if h.waitsbest {
-        return goes_best(h, x);
-    }
-    h
 }
 
 // Step 1: on a free wire a head goes out.
@@ -222,7 +248,7 @@ fn tick(h: Hot, x: Fixed) -> Hot
 }
 
 // A frame has ended: someone has the wire and no byte is left.
-fn has_ended(h: Hot) -> bool
+pub fn has_ended(h: Hot) -> bool
     ensures { λ r. ⌜ r ≡ endedHot h ⌝ }
 {
     let who = h.sender;
@@ -233,7 +259,7 @@ fn has_ended(h: Hot) -> bool
 }
 
 // Byte-times until a frame ends or n have passed.
-fn run(h: Hot, x: Fixed, n: u64) -> Ran
+pub fn run(h: Hot, x: Fixed, n: u64) -> Ran
     requires { ⌜ Near 1099511627776 h x ⌝ }
     requires { ⌜ n ≤ 65535 ⌝ }
     ensures { λ r. ⌜ r ≡ runHot n h x ⌝ }

@@ -1,4 +1,5 @@
 // The port's calls: opening, the offer to a row, the offer of best effort, the advance.
+pub mod advances;
 mod byte;
 mod check;
 mod frames;

@@ -13,10 +13,6 @@ use Rattle.port.proofs.Signs.{plain, small, natural, mag-add, mag-sub, 
 use borrow.Author.Needs.{needs}
 use Rattle.port.proofs.byte.credit_after.Statement.{statement}
 use Rattle.port.proofs.byte.credit_after.Tie as tie
-use Rattle.port.proofs.byte.credit_after.Reads as reads
-use Rattle.port.proofs.byte.credit_after.Lts as lts
-use Rattle.port.proofs.byte.lowered.Reads as lowered-reads
-use Rattle.port.proofs.byte.up_to_zero.Reads as up-to-zero-reads
 
 sub-fits : (z : ℤ) (s : ℕ) → SFits w64 z → mag z ≤ 1125899906842624 → s ≤ 1000000 → SFits w64 (toZ w64 (ofZ w64 z) -ℤ toZ w64 s)
 sub-fits z s f h g = rw (plain f, natural {n = s} (omega arith)) (small (omega (arith, mag-sub z s)))

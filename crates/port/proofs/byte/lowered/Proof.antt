@@ -7,9 +7,6 @@ use Rattle.port.proofs.Signs.{plain}
 use borrow.Author.Needs.{needs}
 use Rattle.port.proofs.byte.lowered.Statement.{statement}
 use Rattle.port.proofs.byte.lowered.Tie as tie
-use Rattle.port.proofs.byte.lowered.Reads as reads
-use Rattle.port.proofs.byte.lowered.Lts as lts
-use Rattle.port.proofs.byte.up_to_zero.Reads as up-to-zero-reads
 
 returns : tie.Need-returns
 returns c = rw (c .if1 .taken) (plain (c .before .fits .credit))

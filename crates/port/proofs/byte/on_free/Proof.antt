@@ -1,69 +1,82 @@
-use mathlib.Core.Path.{_∙_}
-use Rattle.port.proofs.Numbers.{is-ready, a-goes, b-goes, best-goes, none-goes}
+-- `port::byte::on_free` meets its contract: the head of the sender that is next goes out.
+use mathlib.Core.Path.{_≡_, _∙_}
+use Rattle.port.specs.declared.Sender.{Sender}
+use Rattle.port.specs.declared.Sender.the-variants.{Nobody, ClassA, ClassB, BestEffort}
+use Rattle.port.specs.Bytes.{goes, onFree}
+use Rattle.port.proofs.Signs.{small}
+use Rattle.port.proofs.Numbers.{is-ready, goes-by}
 use borrow.Author.Needs.{needs}
 use Rattle.port.proofs.byte.on_free.Statement.{statement}
 use Rattle.port.proofs.byte.on_free.Tie as tie
-use Rattle.port.proofs.byte.on_free.Reads as reads
-use Rattle.port.proofs.byte.on_free.Lts as lts
-use Rattle.port.proofs.byte.goes_a.Reads as goes-a-reads
-use Rattle.port.proofs.byte.goes_b.Reads as goes-b-reads
-use Rattle.port.proofs.byte.goes_best.Reads as goes-best-reads
-use Rattle.port.proofs.byte.ready.Reads as ready-reads
 
--- src/byte.rt:159:8
+abbrev start : tie.After-next → tie.Start
+start c = c .before .before .before .before .before
+
+by-next : (c : tie.After-next) (w : Sender) → c .next .result ≡ w → goes w (start c .args .h) (start c .args .x) ≡ onFree (start c .args .h) (start c .args .x)
+by-next c w e =
+    let h = start c .args .h in
+    goes-by h (start c .args .x) w e
+    (is-ready (h .credita) (h .waitsa) (small (c .before .before .before .before .struct-told .given .0 .1)) (c .before .before .before .ready .ensures))
+    (is-ready (h .creditb) (h .waitsb) (small (c .before .before .struct-told2 .given .1 .0 .1)) (c .before .ready2 .ensures))
+    (c .next .ensures)
+
 ready-requires : tie.Need-ready-requires
 ready-requires c κs = search needs
 
--- src/byte.rt:160:9
-goes-a-requires : tie.Need-goes-a-requires
-goes-a-requires c κs = search needs
-
--- src/byte.rt:160:9
-returns : tie.Need-returns
-returns c =
-    let h = c .before .before .before .before .args .h in
-    c .goes-a .ensures ∙ a-goes h _ (is-ready (h .credita) (h .waitsa) (record { sfits = c .before .before .before .struct-told .given .0 .1 }) (c .before .before .ready .ensures) ∙ c .before .if1 .taken)
-
--- src/byte.rt:162:8
 ready-requires-2 : tie.Need-ready-requires-2
 ready-requires-2 c κs = search needs
 
--- src/byte.rt:163:9
+next-requires : tie.Need-next-requires
+next-requires c κs = search needs
+
+enum-told : tie.Need-enum-told
+enum-told c = search needs
+
+enum-told-2 : tie.Need-enum-told-2
+enum-told-2 c = search needs
+
+goes-a-requires : tie.Need-goes-a-requires
+goes-a-requires c κs = search needs
+
+enum-told-3 : tie.Need-enum-told-3
+enum-told-3 c = search needs
+
 goes-b-requires : tie.Need-goes-b-requires
 goes-b-requires c κs = search needs
 
--- src/byte.rt:163:9
-returns-2 : tie.Need-returns-2
-returns-2 c =
-    let h = c .before .before .before .before .before .before .before .args .h in
-    c .goes-b .ensures ∙ b-goes h _ (is-ready (h .credita) (h .waitsa) (record { sfits = c .before .before .before .before .before .before .struct-told .given .0 .1 }) (c .before .before .before .before .before .ready .ensures) ∙ c .before .before .before .before .if1 .left) (is-ready (h .creditb) (h .waitsb) (record { sfits = c .before .before .before .struct-told2 .given .1 .0 .1 }) (c .before .before .ready2 .ensures) ∙ c .before .if2 .taken)
+enum-told-4 : tie.Need-enum-told-4
+enum-told-4 c = search needs
 
--- src/byte.rt:166:9
 goes-best-requires : tie.Need-goes-best-requires
 goes-best-requires c κs = search needs
 
--- src/byte.rt:166:9
-returns-3 : tie.Need-returns-3
-returns-3 c =
-    let h = c .before .before .before .before .before .before .before .before .args .h in
-    c .goes-best .ensures ∙ best-goes h _ (is-ready (h .credita) (h .waitsa) (record { sfits = c .before .before .before .before .before .before .before .struct-told .given .0 .1 }) (c .before .before .before .before .before .before .ready .ensures) ∙ c .before .before .before .before .before .if1 .left) (is-ready (h .creditb) (h .waitsb) (record { sfits = c .before .before .before .before .struct-told2 .given .1 .0 .1 }) (c .before .before .before .ready2 .ensures) ∙ c .before .before .if2 .left) (c .before .if3 .taken)
+returns : tie.Need-returns
+returns c = by-next (c .before .before) Nobody (c .enum-told .given .1)
 
--- src/byte.rt:156:1
+returns-2 : tie.Need-returns-2
+returns-2 c = c .goes-a .ensures ∙ by-next (c .before .before .before) ClassA (c .before .enum-told2 .given .1)
+
+returns-3 : tie.Need-returns-3
+returns-3 c = c .goes-b .ensures ∙ by-next (c .before .before .before) ClassB (c .before .enum-told3 .given .1)
+
 returns-4 : tie.Need-returns-4
-returns-4 c =
-    let h = c .before .before .before .before .before .before .before .args .h in
-    none-goes h _ (is-ready (h .credita) (h .waitsa) (record { sfits = c .before .before .before .before .before .before .struct-told .given .0 .1 }) (c .before .before .before .before .before .ready .ensures) ∙ c .before .before .before .before .if1 .left) (is-ready (h .creditb) (h .waitsb) (record { sfits = c .before .before .before .struct-told2 .given .1 .0 .1 }) (c .before .before .ready2 .ensures) ∙ c .before .if2 .left) (c .if3 .left)
+returns-4 c = c .goes-best .ensures ∙ by-next (c .before .before .before) BestEffort (c .before .enum-told4 .given .1)
 
 pub on-free-spec : {M : Type 1} → statement M
 on-free-spec =
     tie.close
     (tie.spec
     ready-requires
-    goes-a-requires
-    returns
     ready-requires-2
+    next-requires
+    enum-told
+    enum-told-2
+    goes-a-requires
+    enum-told-3
     goes-b-requires
-    returns-2
+    enum-told-4
     goes-best-requires
+    returns
+    returns-2
     returns-3
     returns-4)

@@ -1,26 +1,19 @@
+-- `port::byte::started` meets its contract.
 use mathlib.Core.Path.{sym, _∙_}
 use Rattle.port.proofs.Numbers.{starts, holds}
 use borrow.Author.Needs.{needs}
 use Rattle.port.proofs.byte.started.Statement.{statement}
 use Rattle.port.proofs.byte.started.Tie as tie
-use Rattle.port.proofs.byte.started.Reads as reads
-use Rattle.port.proofs.byte.started.Lts as lts
-use Rattle.port.proofs.byte.is_nobody.Reads as is-nobody-reads
-use Rattle.port.proofs.byte.on_free.Reads as on-free-reads
 
--- src/byte.rt:176:8
 is-nobody-requires : tie.Need-is-nobody-requires
 is-nobody-requires c κs = search needs
 
--- src/byte.rt:177:9
 on-free-requires : tie.Need-on-free-requires
 on-free-requires c κs = search needs
 
--- src/byte.rt:177:9
 returns : tie.Need-returns
 returns c = c .on-free .ensures ∙ starts _ _ (sym (c .before .before .is-nobody .ensures) ∙ c .before .if1 .taken)
 
--- src/byte.rt:172:1
 returns-2 : tie.Need-returns-2
 returns-2 c = holds _ _ (sym (c .before .is-nobody .ensures) ∙ c .if1 .left)
 

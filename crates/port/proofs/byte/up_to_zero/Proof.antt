@@ -2,8 +2,6 @@
 use Rattle.port.proofs.Signs.{goes-to-zero, stays-below}
 use Rattle.port.proofs.byte.up_to_zero.Statement.{statement}
 use Rattle.port.proofs.byte.up_to_zero.Tie as tie
-use Rattle.port.proofs.byte.up_to_zero.Reads as reads
-use Rattle.port.proofs.byte.up_to_zero.Lts as lts
 
 returns : tie.Need-returns
 returns c = goes-to-zero _ (c .before .fits .credit) (c .if1 .taken)
