@@ -34,9 +34,8 @@ use Rattle.port.specs.declared.Ran.{Ran}
 use Rattle.port.specs.Bytes.{isNobody, endedHot, furtherHot, runHot, Near, firstOf, fixedOf, senderOf, hotOn, hotOf, wireNow, afterRun}
 use Rattle.port.specs.Steps.{ranTo, Progressed}
 use Rattle.port.proofs.Tied.{some, Owned, Tied, Head, From, Found, Agree, agrees}
-use Rattle.port.proofs.Viewed.{waits, too-many}
-use Rattle.port.proofs.Waits.{waiting-length}
-use Rattle.port.proofs.Walk.{Places}
+use Rattle.record.proofs.Viewed.{waits, waiting-length, too-many}
+use Rattle.record.proofs.Walk.{Places}
 
 never : {X : Type 0} → false ≡ true → X
 never e = let z : _≡_ {A = ℕ} 0 1 = cc in absurd (omega arith)

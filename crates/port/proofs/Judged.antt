@@ -20,8 +20,8 @@ use Rattle.machine.specs.Record.{lastClock, notAfter, noneAfter, clockSound, ro
 use Rattle.machine.specs.Calls.{Call, offer, offerBest, advance, denied, tooSoon, early, offerCheck, bestCheck, advanceCheck, takeRow, takeBest, after, answer, numberOf, offerAnswer, advanceAnswer, Gives, Offered, OfferedBest, Advanced}
 use Rattle.machine.proofs.FromSound.{and-true, clauses, is-accepted, place-left}
 use Rattle.port.specs.Steps.{refusal, stay, Progressed}
-use Rattle.port.proofs.Walk.{zeroLast, instant-at}
-use Rattle.port.proofs.Waits.{waiting-length}
+use Rattle.record.proofs.Walk.{zeroLast, instant-at}
+use Rattle.record.proofs.Viewed.{waiting-length}
 
 -- ---- the checks in their order, of a row's offer
 module _ (s : State) (k x : ℕ) where

@@ -9,8 +9,8 @@ use lib.Seq.{take-suc, take-suc-set, getD-drop}
 use Rattle.machine.specs.declared.Frame.{Frame}
 use Rattle.machine.specs.State.{waiting}
 use Rattle.machine.specs.Time.{behindHead}
-use Rattle.port.specs.Bytes.{zeroFrame}
-use Rattle.port.proofs.Viewed.{waits}
+use Rattle.record.specs.Steps.{zeroFrame}
+use Rattle.record.proofs.Viewed.{waits}
 
 -- the first i places have what stood one place behind
 abbrev pub Shifting : List Frame → ℕ → List Frame → Type 0

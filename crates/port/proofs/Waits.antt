@@ -10,23 +10,13 @@ use lib.Seq.{take-suc-set, take-set-lt}
 use Rattle.machine.specs.declared.Frame.{Frame}
 use Rattle.machine.specs.declared.Last.{Last}
 use Rattle.machine.specs.State.{Instant, never, waiting, instantOf}
-use Rattle.port.proofs.Walk.{zeroLast}
-
--- as many frames wait as the count says, also where it is above the places
-pub waiting-length : (n : ℕ) (xs : List Frame) → length (waiting n xs) ≡ n
-waiting-length n xs = rw (length-append, length-take, length-replicate) (omega arith)
-
--- a count within the places is of frames that stand there
-pub waiting-places : (n : ℕ) (xs : List Frame) → n ≤ length xs → waiting n xs ≡ take n xs
-waiting-places n xs h = rw (none) (append-nil (take n xs))
-  where
-    none : n - length xs ≡ 0
-    none = omega arith
+use Rattle.record.proofs.Viewed.{waits}
+use Rattle.record.proofs.Walk.{zeroLast}
 
 -- a frame in the first free place has joined those that wait
 pub waiting-joined : (n : ℕ) (xs : List Frame) (f : Frame) → n < length xs → waiting (n + 1) (set xs n f) ≡ waiting n xs ++ f ∷ []
 waiting-joined n xs f h =
-    waiting-places (n + 1) (set xs n f) (rw length-set (omega arith)) ∙ rw (add-one, take-suc-set xs n f h, waiting-places n xs (omega arith)) refl
+    waits (n + 1) (set xs n f) (rw length-set (omega arith)) ∙ rw (add-one, take-suc-set xs n f h, waits n xs (omega arith)) refl
 
 -- no row has an instant where none of the places has one
 pub no-instants : (n m : ℕ) → n ≤ m → map instantOf (take n (replicate m zeroLast)) ≡ replicate n never

@@ -15,6 +15,7 @@ use Rattle.machine.specs.declared.Wire.the-variants.{Free, Sending}
 use Rattle.machine.specs.declared.Port.{Port}
 use Rattle.machine.specs.State.{State}
 use Rattle.machine.specs.Time.{Owner, shaped, unshaped, owner, upToZero, rise, behindHead}
+use Rattle.record.specs.Steps.{zeroFrame}
 use Rattle.port.specs.declared.Sender.{Sender}
 use Rattle.port.specs.declared.Sender.the-variants.{Nobody, ClassA, ClassB, BestEffort}
 use Rattle.port.specs.declared.Hot.{Hot}
@@ -132,9 +133,6 @@ pub record Near (most : ℕ) (h : Hot) (x : Fixed) : Type 0 where
   pub creditb : mag (h .creditb) ≤ most
 
 -- The numbers of a record: those that byte-times leave alone, and those that they change.
-abbrev pub zeroFrame : Frame
-zeroFrame = record { source = 0; size = 0; taken = 0 }
-
 abbrev pub firstOf : List Frame → Frame
 firstOf places = getD places 0 zeroFrame
 

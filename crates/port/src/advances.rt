@@ -19,8 +19,6 @@ use crate::byte::is_b;
 use crate::byte::is_best;
 use crate::byte::is_nobody;
 use crate::byte::run;
-use crate::check::LAST_CLOCK;
-use crate::check::is_sound;
 use crate::queues::best_after;
 use crate::queues::queue_after;
 use machine::Advance;
@@ -32,6 +30,8 @@ use machine::Port;
 use machine::Wire;
 use planner::Class;
 use planner::Table;
+use record::check::LAST_CLOCK;
+use record::check::is_sound;
 
 // What byte-times leave alone.
 fn fixed(p: Port) -> Fixed

@@ -1,12 +1,9 @@
 // The port's calls: opening, the offer to a row, the offer of best effort, the advance.
 pub mod advances;
 mod byte;
-mod check;
-mod frames;
 pub mod offers;
 pub mod opening;
 mod queues;
-mod tally;
 
 use machine::Frame;
 

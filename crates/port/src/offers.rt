@@ -7,7 +7,6 @@ ghost use Rattle.machine.specs.State.{view, instantOf};
 ghost use Rattle.machine.specs.Record.{notAfter};
 ghost use Rattle.machine.specs.Calls.{tooSoon, joined, takeRow, takeBest, Offered, OfferedBest};
 ghost use Rattle.port.specs.Steps.{refusal};
-use crate::check::is_sound;
 use crate::queues::best_pushed;
 use crate::queues::pushed;
 use machine::AfterOffer;
@@ -21,6 +20,7 @@ use planner::Row;
 use planner::wire::period;
 use planner::wire::size_for;
 use planner::wire::wire_size;
+use record::check::is_sound;
 
 // A refused offer hands back the record as it was.
 fn refused(port: Port, d: Denial) -> AfterOffer

@@ -8,7 +8,8 @@ use Rattle.machine.specs.Time.{owner}
 use Rattle.port.specs.declared.Sender.{Sender}
 use Rattle.port.specs.declared.Sender.the-variants.{Nobody}
 use Rattle.port.specs.declared.Hot.{Hot}
-use Rattle.port.specs.Bytes.{zeroFrame, senderOf, hotWith, hotOf}
+use Rattle.port.specs.Bytes.{senderOf, hotWith, hotOf}
+use Rattle.record.specs.Steps.{zeroFrame}
 use borrow.Author.Needs.{needs}
 use Rattle.port.proofs.advances.hot.Statement.{statement}
 use Rattle.port.proofs.advances.hot.Tie as tie

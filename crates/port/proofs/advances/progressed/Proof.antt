@@ -4,7 +4,7 @@ use mathlib.Core.Path.{_≡_}
 use Rattle.planner.specs.declared.Class.the-variants.{A, B}
 use Rattle.machine.specs.State.{view}
 use Rattle.machine.specs.Record.{sound}
-use Rattle.port.proofs.Walk.{Places, port-places}
+use Rattle.record.proofs.Walk.{Places, port-places}
 use Rattle.port.proofs.Begins.{few-a, few-b, few-best, few-rows, slopes, may-run, in-time, progresses}
 use borrow.Author.Needs.{needs}
 use Rattle.port.proofs.advances.progressed.Statement.{statement}

@@ -13,7 +13,7 @@ use Rattle.machine.specs.declared.Port.{Port}
 use Rattle.machine.specs.State.{instantOf, view}
 use Rattle.machine.specs.Record.{sound}
 use Rattle.machine.specs.Calls.{tooSoon, early}
-use Rattle.port.proofs.Walk.{zeroLast, port-places}
+use Rattle.record.proofs.Walk.{zeroLast, port-places}
 use Rattle.port.proofs.Judged.{broken, no-such-row, too-large, too-early, passes, few-rows, row-count, in-use, row-is, not-after, early-is, room-a, room-b, row-refused, row-accepted}
 use borrow.Author.Needs.{needs}
 use Rattle.port.proofs.offers.offer.Statement.{statement}

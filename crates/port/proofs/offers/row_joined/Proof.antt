@@ -14,7 +14,7 @@ use Rattle.machine.specs.declared.Port.{Port}
 use Rattle.machine.specs.State.{queue, waiting, view}
 use Rattle.machine.specs.Calls.{joined}
 use Rattle.port.proofs.Waits.{instant-set}
-use Rattle.port.proofs.Walk.{port-places}
+use Rattle.record.proofs.Walk.{port-places}
 use borrow.Author.Needs.{needs}
 use Rattle.port.proofs.offers.row_joined.Statement.{statement}
 use Rattle.port.proofs.offers.row_joined.Tie as tie

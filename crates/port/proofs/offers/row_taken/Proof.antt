@@ -8,7 +8,7 @@ use Rattle.planner.proofs.Laws as law
 use Rattle.machine.specs.declared.Port.{Port}
 use Rattle.machine.specs.State.{State, view}
 use Rattle.machine.specs.Calls.{joined, takeRow}
-use Rattle.port.proofs.Walk.{port-places}
+use Rattle.record.proofs.Walk.{port-places}
 use borrow.Author.Needs.{needs}
 use Rattle.port.proofs.offers.row_taken.Statement.{statement}
 use Rattle.port.proofs.offers.row_taken.Tie as tie

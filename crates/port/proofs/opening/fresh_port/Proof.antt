@@ -9,8 +9,8 @@ use Rattle.planner.specs.Rows.{rowsOf}
 use Rattle.planner.proofs.Laws as law
 use Rattle.machine.specs.declared.Wire.the-variants.{Free}
 use Rattle.machine.specs.State.{fresh, view}
-use Rattle.port.specs.Bytes.{zeroFrame}
-use Rattle.port.proofs.Walk.{zeroLast}
+use Rattle.record.specs.Steps.{zeroFrame}
+use Rattle.record.proofs.Walk.{zeroLast}
 use Rattle.port.proofs.Waits.{no-instants}
 use Rattle.port.proofs.opening.fresh_port.Statement.{statement}
 use Rattle.port.proofs.opening.fresh_port.Tie as tie

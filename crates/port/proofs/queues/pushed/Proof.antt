@@ -1,5 +1,5 @@
 -- `port::queues::pushed` meets its contract: the frame stands in the first free place.
-use Rattle.port.proofs.Walk.{queue-places}
+use Rattle.record.proofs.Walk.{queue-places}
 use Rattle.port.proofs.Waits.{waiting-joined}
 use native.Mathlib.Omega.{arith}
 use borrow.Author.Needs.{needs}

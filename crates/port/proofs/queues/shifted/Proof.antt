@@ -2,7 +2,7 @@
 use Prim.Native.Nat.{_-_, _≤_}
 use mathlib.Core.Path.{_≡_, refl, sym, _∙_}
 use native.Mathlib.Omega.{arith}
-use Rattle.port.proofs.Walk.{queue-places}
+use Rattle.record.proofs.Walk.{queue-places}
 use Rattle.port.proofs.Shift.{Shifting, shift-one, shift-done, none-behind}
 use Rattle.port.proofs.queues.shifted.Statement.{statement}
 use Rattle.port.proofs.queues.shifted.Tie as tie
