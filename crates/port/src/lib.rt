@@ -1,6 +1,7 @@
 // The port's calls: opening, the offer to a row, the offer of best effort, the advance.
 pub mod advances;
 mod byte;
+pub mod numbers;
 pub mod offers;
 pub mod opening;
 mod queues;
