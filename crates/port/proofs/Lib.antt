@@ -1,7 +1,7 @@
 -- Laws that belong to no one function.
 mod Begins
 mod Judged
-mod Numbers
+mod Moves
 mod Shift
 mod Signs
 mod Tied

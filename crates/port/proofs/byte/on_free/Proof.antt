@@ -4,7 +4,7 @@ use Rattle.port.specs.declared.Sender.{Sender}
 use Rattle.port.specs.declared.Sender.the-variants.{Nobody, ClassA, ClassB, BestEffort}
 use Rattle.port.specs.Bytes.{goes, onFree}
 use Rattle.port.proofs.Signs.{small}
-use Rattle.port.proofs.Numbers.{is-ready, goes-by}
+use Rattle.port.proofs.Moves.{is-ready, goes-by}
 use borrow.Author.Needs.{needs}
 use Rattle.port.proofs.byte.on_free.Statement.{statement}
 use Rattle.port.proofs.byte.on_free.Tie as tie

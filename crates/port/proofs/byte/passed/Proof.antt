@@ -1,6 +1,6 @@
 -- `port::byte::passed` meets its contract, field by field.
 use Rattle.port.proofs.Signs.{small}
-use Rattle.port.proofs.Numbers.{credit-of, passes}
+use Rattle.port.proofs.Moves.{credit-of, passes}
 use borrow.Author.Needs.{needs}
 use Rattle.port.proofs.byte.passed.Statement.{statement}
 use Rattle.port.proofs.byte.passed.Tie as tie

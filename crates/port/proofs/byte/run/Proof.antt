@@ -5,7 +5,7 @@ use mathlib.Core.Path.{_≡_, refl, sym, _∙_, ap}
 use native.Mathlib.Omega.{arith}
 use borrow.Author.Needs.{needs}
 use Rattle.port.specs.Bytes.{tickHot, endedHot, runHot, Near}
-use Rattle.port.proofs.Numbers.{no-run, one-more, run-stays, near-tick, nearer}
+use Rattle.port.proofs.Moves.{no-run, one-more, run-stays, near-tick, nearer}
 use Rattle.port.proofs.byte.run.Statement.{statement}
 use Rattle.port.proofs.byte.run.Tie as tie
 

@@ -1,6 +1,6 @@
 -- `port::byte::started` meets its contract.
 use mathlib.Core.Path.{sym, _∙_}
-use Rattle.port.proofs.Numbers.{starts, holds}
+use Rattle.port.proofs.Moves.{starts, holds}
 use borrow.Author.Needs.{needs}
 use Rattle.port.proofs.byte.started.Statement.{statement}
 use Rattle.port.proofs.byte.started.Tie as tie

@@ -1,6 +1,6 @@
 -- `port::byte::tick` meets its contract.
 use mathlib.Core.Path.{sym, _∙_}
-use Rattle.port.proofs.Numbers.{near-started, ticks}
+use Rattle.port.proofs.Moves.{near-started, ticks}
 use borrow.Author.Needs.{needs}
 use Rattle.port.proofs.byte.tick.Statement.{statement}
 use Rattle.port.proofs.byte.tick.Tie as tie
