@@ -1,0 +1,5 @@
+pub mod Digits
+pub mod Forms
+pub mod OtherForms
+pub mod Runs
+pub mod Texts

@@ -1,0 +1,34 @@
+-- The calls that `portrun` makes, and the answers that it prints.
+use Prim.Native.Nat.{ℕ}
+use mathlib.Core.Path.{_≡_}
+use Rattle.machine.specs.declared.Ended.{Ended}
+use Rattle.machine.specs.declared.Ended.the-variants.{Reported, Nothing}
+use Rattle.machine.specs.State.{State, view}
+use Rattle.machine.specs.Calls as machine
+use Rattle.portrun.specs.declared.lines.Call.{Call}
+use Rattle.portrun.specs.declared.lines.Call.the-variants.{Offer, Best, Advance}
+use Rattle.portrun.specs.declared.answers.Answer.{Answer}
+use Rattle.portrun.specs.declared.answers.Answer.the-variants.{Refused, Passed}
+use Rattle.portrun.specs.declared.answers.AfterCall.{AfterCall}
+
+-- The call of the machine that each case stands for.
+abbrev pub callOf : Call → machine.Call
+callOf (Offer row payload) = machine.offer row payload
+callOf (Best payload) = machine.offerBest payload
+callOf (Advance n) = machine.advance n
+
+-- The ended frame's row: 32 best effort, 33 none.
+abbrev pub rowOf : Ended → ℕ
+rowOf (Reported f) = f .source
+rowOf Nothing = 33
+
+-- `refused`, number, place; or `0`, byte-times passed, ended frame's row. An offer taken prints `0 0 33`.
+abbrev pub answerOf : machine.Answer → Answer
+answerOf machine.taken = Passed 0 33
+answerOf (machine.passed n e) = Passed n (rowOf e)
+answerOf (machine.denied n p) = Refused n p
+
+-- A call gives the machine's answer and the machine's port.
+pub record Made (s : State) (c : machine.Call) (r : AfterCall) : Type 0 where
+  pub answer : r .answer ≡ answerOf (machine.answer s c)
+  pub port : view (r .port) ≡ machine.after s c

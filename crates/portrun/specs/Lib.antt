@@ -1,0 +1,5 @@
+pub mod Answers
+pub mod Forms
+pub mod Lines
+pub mod Runs
+pub mod Text
