@@ -73,7 +73,7 @@ fn offer_best(p: Port, payload: u64) -> AfterCall
 fn advance(p: Port, n: u64) -> AfterCall
     ensures { λ r. ⌜ Made (view p) (advance n) r ⌝ }
 {
-    let r = port::advances::advance(p, n);
+    let r = lent::record::advance_local(p, n);
     let a = r.answer;
     let answer = advanced(a);
     let port = r.port;

@@ -65,7 +65,7 @@ fn lines(t: Table, bounds: [u64; 32])
 
 // The sheet of a table that was read, or opening's refusal.
 fn opened(t: Table) {
-    let s = planner::bounds(t);
+    let s = lent::rows::of_table(t);
     let verdict = s.verdict;
     match verdict {
         Verdict::Accepted => {

@@ -12,14 +12,14 @@ use Rattle.portsheet.proofs.opened.Tie as tie
 few : (t : Table) (v w : Verdict) → outcomeOf v ≡ opening t → v ≡ w → outcomeOf w ≡ accepted → t .count ≤ 32
 few t v w e f g = law.accepted-if t (sym e ∙ ap outcomeOf f ∙ g) .most
 
-bounds-requires : tie.Need-bounds-requires
-bounds-requires c κs = search needs
+of-table-requires : tie.Need-of-table-requires
+of-table-requires c κs = search needs
 
 enum-told : tie.Need-enum-told
 enum-told c = search needs
 
 lines-requires : tie.Need-lines-requires
-lines-requires c κs = few _ _ _ (c .before .before .before .bounds .ensures .verdict) (c .before .enum-told .given .1) refl
+lines-requires c κs = few _ _ _ (c .before .before .before .of-table .ensures .verdict) (c .before .enum-told .given .1) refl
 
 enum-known-verdict : tie.Need-enum-known-verdict
 enum-known-verdict c = search needs
@@ -43,7 +43,7 @@ pub opened-spec : {M : Type 1} → statement M
 opened-spec =
     tie.close
     (tie.spec
-    bounds-requires
+    of-table-requires
     enum-told
     lines-requires
     enum-known-verdict
