@@ -1,0 +1,91 @@
+-- `replay::list::steps` meets its contract: at i the first i calls have made a run, and their answers stand in the buffer.
+use Prim.Native.Nat.{_-_, _*_, _/_, _≤_}
+use mathlib.Core.List.{[]}
+use mathlib.Core.Path.{_≡_, refl, sym, _∙_, ap}
+use native.Mathlib.Omega.{arith}
+use denote.Ref.{now}
+use lib.ListN.{length}
+use Rattle.planner.specs.declared.Table.{Table}
+use Rattle.machine.specs.Run.{Run}
+use Rattle.replay.specs.List.{callAt, countOf}
+use Rattle.replay.proofs.Listing.{room, same-size, Sofar, begins, goes-on, all-done}
+use borrow.Author.Needs.{needs}
+use Rattle.replay.proofs.list.steps.Statement.{statement}
+use Rattle.replay.proofs.list.steps.Tie as tie
+
+abbrev Inv-loop : tie.InvT-loop
+Inv-loop calls out₀ n p₀ i₀ out p i = (n ≡ countOf calls) × (i ≤ n) × (length out ≡ length out₀) × ((t : Table) → Run t [] p₀ → Sofar p₀ calls out₀ i p out t)
+
+abbrev μ-loop : tie.MeasureT-loop
+μ-loop calls out₀ n p₀ i₀ out p i = n - i
+
+loop-holds : tie.Need-loop-holds Inv-loop μ-loop
+loop-holds c = (refl, omega arith, refl, λ t r. begins _ _ _ t r)
+
+asked-at-requires : tie.Need-asked-at-requires Inv-loop μ-loop
+asked-at-requires c κs = omega arith
+
+mul-at : tie.Need-mul-at Inv-loop μ-loop
+mul-at c = omega arith
+
+sub-step : tie.Need-sub-step Inv-loop μ-loop
+sub-step c = omega arith
+
+part-step-start : tie.Need-part-step-start Inv-loop μ-loop
+part-step-start c = omega arith
+
+part-step-end : tie.Need-part-step-end Inv-loop μ-loop
+part-step-end c = omega arith
+
+step-requires : tie.Need-step-requires Inv-loop μ-loop
+step-requires c κs =
+    let l = c .before .before .before .loop in
+    let s = c .before .before .before .before .before .before in
+    room (l .out) (l .i) (countOf (now (s .args .calls))) (omega arith) (rw (l .inv .2) (s .pre))
+
+add-i : tie.Need-add-i Inv-loop μ-loop
+add-i c = omega arith
+
+loop-less : tie.Need-loop-less Inv-loop μ-loop
+loop-less c = omega arith
+
+loop-again : tie.Need-loop-again Inv-loop μ-loop
+loop-again c =
+    let l = c .before .before .before .before .before .before .loop in
+    let s = c .before .before .before .before .before .before .before .before .before in
+    let calls = now (s .args .calls) in
+    let asked = c .before .before .before .before .asked-at .ensures in
+    let step = rw asked at (c .before .before .step .ensures) in (
+      refl,
+      omega arith,
+      same-size (l .out) (40 * l .i) (l .p) (callAt calls (l .i)) (c .before .before .step .result) (c .before .before .step .last .1 .1 .0) (room (l .out) (l .i) (countOf calls) (omega arith) (rw (l .inv .2) (s .pre))) step ∙ l .inv .2,
+      λ t r. goes-on (s .args .port) calls (now (s .args .out)) (l .i) (l .p) (l .out) t (c .before .before .step .result) (c .before .before .step .last .1 .1 .0) (l .inv .3 t r) step,
+    )
+
+same-length : tie.Need-same-length Inv-loop μ-loop
+same-length c = omega arith
+
+returns : tie.Need-returns Inv-loop μ-loop
+returns c =
+    let l = c .before .loop in
+    let s = c .before .before .before .before in
+    λ t r. all-done (s .args .port) (now (s .args .calls)) (now (s .args .out)) (l .i) (l .p) (l .out) t (omega arith) (l .inv .3 t r)
+
+pub steps-spec : {M : Type 1} → statement M
+steps-spec =
+    tie.close
+    (tie.spec
+    Inv-loop
+    μ-loop
+    loop-holds
+    asked-at-requires
+    mul-at
+    sub-step
+    part-step-start
+    part-step-end
+    step-requires
+    add-i
+    loop-less
+    loop-again
+    same-length
+    returns)

@@ -1,0 +1,32 @@
+-- A call and its answer as words.
+use Prim.Native.Nat.{ℕ}
+use mathlib.Core.Bool.{cond}
+use mathlib.Core.List.{List, [], _∷_}
+use lib.Dec.{eqb}
+use lib.ListN.{length}
+use Rattle.machine.specs.declared.Ended.{Ended}
+use Rattle.machine.specs.declared.Ended.the-variants.{Reported, Nothing}
+use Rattle.machine.specs.Calls.{Answer, taken, passed, denied}
+use Rattle.replay.specs.declared.Asked.{Asked}
+use Rattle.replay.specs.declared.Asked.the-variants.{Offer, OfferBest, Advance, Unreadable}
+use Rattle.replay.specs.Words.{flat, wordBytes, wordAt}
+
+-- A call: 3 words. 0, row, payload is an offer to a row; 1, payload, 0 an offer of best effort; 2, n, 0 an advance by n.
+abbrev pub callBy : ℕ → ℕ → ℕ → Asked
+callBy kind x y = cond (eqb kind 0) (Offer x y) (cond (eqb y 0) (cond (eqb kind 1) (OfferBest x) (cond (eqb kind 2) (Advance x) Unreadable)) Unreadable)
+
+unfoldable pub readCall : List ℕ → Asked
+readCall s = cond (eqb (length s) 24) (callBy (wordAt s 0) (wordAt s 1) (wordAt s 2)) Unreadable
+
+-- An answer: 5 words. The refusal's number, or 0; the byte-times passed; the ended frame's source, size and instant taken, or 33, 0, 0 for none.
+abbrev pub endedWords : Ended → List ℕ
+endedWords (Reported f) = f .source ∷ f .size ∷ f .taken ∷ []
+endedWords Nothing = 33 ∷ 0 ∷ 0 ∷ []
+
+abbrev pub answerWords : Answer → List ℕ
+answerWords taken = 0 ∷ 0 ∷ 33 ∷ 0 ∷ 0 ∷ []
+answerWords (passed n e) = 0 ∷ n ∷ endedWords e
+answerWords (denied number place) = number ∷ 0 ∷ 33 ∷ 0 ∷ 0 ∷ []
+
+unfoldable pub answerBytes : Answer → List ℕ
+answerBytes a = flat wordBytes (answerWords a)

@@ -1,0 +1,102 @@
+-- A list of calls replayed on the port of a table file: 24 bytes a call, 40 bytes an answer.
+use Prim.Native.Nat.{ℕ, zero, suc, _+_, _*_, _/_, _%_, min}
+use mathlib.Core.Bool.{Bool, true, false, cond}
+use mathlib.Core.List.{List, [], _∷_, _++_}
+use mathlib.Core.Path.{_≡_}
+use lib.Dec.{leb, eqb}
+use lib.ListN.{length, take, drop}
+use Rattle.planner.specs.declared.Table.{Table}
+use Rattle.planner.specs.Opening.{Outcome, accepted, refused, unless, first, opening}
+use Rattle.tablefile.specs.Reading.{readFile}
+use Rattle.machine.specs.declared.Port.{Port}
+use Rattle.machine.specs.State.{view}
+use Rattle.machine.specs.Calls.{Call, offer, offerBest, advance, answer, Gives}
+use Rattle.machine.specs.Run.{Event, event, machine, Run, Demand3}
+use Rattle.replay.specs.declared.Asked.{Asked}
+use Rattle.replay.specs.declared.Asked.the-variants.{Offer, OfferBest, Advance, Unreadable}
+use Rattle.replay.specs.Calls.{readCall, answerBytes}
+
+-- An outcome as one number: 0, or the refusal's number and 256 times its place, where a place above 4,294,967,295 counts as that.
+abbrev pub codeOf : Outcome → ℕ
+codeOf accepted = 0
+codeOf (refused number place) = number + 256 * min place 4294967295
+
+-- The call of number i.
+unfoldable pub askedAt : List ℕ → ℕ → Asked
+askedAt calls i = readCall (take 24 (drop (24 * i) calls))
+
+abbrev pub isReadable : Asked → Bool
+isReadable (Offer row payload) = true
+isReadable (OfferBest payload) = true
+isReadable (Advance n) = true
+isReadable Unreadable = false
+
+-- A list with a call that can't be read is refused, so what stands for such a call is never made.
+abbrev pub callOf : Asked → Call
+callOf (Offer row payload) = offer row payload
+callOf (OfferBest payload) = offerBest payload
+callOf (Advance n) = advance n
+callOf Unreadable = advance 0
+
+abbrev pub callAt : List ℕ → ℕ → Call
+callAt calls i = callOf (askedAt calls i)
+
+-- The lowest number below n that fails a test, or n.
+unfoldable pub lowest : ℕ → (ℕ → Bool) → ℕ
+lowest zero ok = zero
+lowest (suc n) ok = cond (eqb (lowest n ok) n) (cond (ok n) (suc n) n) (lowest n ok)
+
+abbrev pub countOf : List ℕ → ℕ
+countOf calls = length calls / 24
+
+abbrev pub unreadable : List ℕ → ℕ
+unreadable calls = lowest (countOf calls) (λ i. isReadable (askedAt calls i))
+
+-- 101, no whole number of calls. 102, a call that can't be read; the place is its number. 103, fewer than 40 bytes an answer.
+unfoldable pub listCheck : List ℕ → ℕ → Outcome
+listCheck calls room =
+    first
+    (unless (eqb (length calls % 24) 0) 101 0
+    ∷ unless (leb (countOf calls) (unreadable calls)) 102 (unreadable calls)
+    ∷ unless (leb (40 * countOf calls) room) 103 0
+    ∷ [])
+
+-- Then the file's refusals, then opening's.
+unfoldable pub replayCheck : List ℕ → List ℕ → ℕ → Outcome
+replayCheck file calls room = first (listCheck calls room ∷ readFile file .outcome ∷ opening (readFile file .table) ∷ [])
+
+-- The first n calls with the machine's answers, the newest first, and the bytes of these answers, the oldest first.
+unfoldable pub eventsOf : Table → List ℕ → ℕ → List Event
+eventsOf t calls zero = []
+eventsOf t calls (suc n) = event (callAt calls n) (answer (machine t (eventsOf t calls n)) (callAt calls n)) ∷ eventsOf t calls n
+
+unfoldable pub answersOf : Table → List ℕ → ℕ → List ℕ
+answersOf t calls zero = []
+answersOf t calls (suc n) = answersOf t calls n ++ answerBytes (answer (machine t (eventsOf t calls n)) (callAt calls n))
+
+-- The buffer: the answers, then its own bytes behind them; at a refusal every byte as it was.
+abbrev pub bufferBy : Outcome → Table → List ℕ → List ℕ → List ℕ
+bufferBy accepted t calls buffer = answersOf t calls (countOf calls) ++ drop (40 * countOf calls) buffer
+bufferBy (refused n p) t calls buffer = buffer
+
+-- A list that ran: opening and the calls made it, and demand 3 holds of it.
+pub record Ran (t : Table) (es : List Event) : Type 0 where
+  pub port : Port
+  pub run : Run t es port
+  pub demand3 : Demand3 t es port
+
+-- The promise of a replay.
+pub record Replayed (file calls before after : List ℕ) (r : ℕ) : Type 0 where
+  pub code : r ≡ codeOf (replayCheck file calls (length before))
+  pub buffer : after ≡ bufferBy (replayCheck file calls (length before)) (readFile file .table) calls before
+  pub ran : replayCheck file calls (length before) ≡ accepted → Ran (readFile file .table) (eventsOf (readFile file .table) calls (countOf calls))
+
+-- ---- what the private functions promise each other
+-- One call on a port, its answer at the front of a buffer.
+pub record Steps (p : Port) (c : Call) (q : Port) (before after : List ℕ) : Type 0 where
+  pub gives : Gives p c (answer (view p) c) q
+  pub bytes : after ≡ answerBytes (answer (view p) c) ++ drop 40 before
+
+-- All calls on a port that opening gave.
+abbrev pub Listed : Port → List ℕ → List ℕ → List ℕ → Type 0
+Listed p calls before after = (t : Table) → Run t [] p → Ran t (eventsOf t calls (countOf calls)) × (after ≡ bufferBy accepted t calls before)

@@ -1,0 +1,33 @@
+// A call from bytes.
+ghost use mathlib.Core.Path.{_≡_};
+ghost use Rattle.replay.specs.Calls.{callBy, readCall};
+use crate::Asked;
+use crate::words::word;
+
+// The call that three words name.
+fn call_by(kind: u64, x: u64, y: u64) -> Asked
+    ensures { λ r. ⌜ r ≡ callBy kind x y ⌝ }
+{
+    if kind == 0 {
+        return Asked::Offer(x, y);
+    }
+    if y != 0 {
+        return Asked::Unreadable;
+    }
+    if kind == 1 {
+        return Asked::OfferBest(x);
+    }
+    if kind == 2 {
+        return Asked::Advance(x);
+    }
+    Asked::Unreadable
+}
+
+pub fn read_call(bytes: &[u8]) -> Asked
+    ensures { λ r. ⌜ r ≡ readCall (now (bytes .entry)) ⌝ }
+{
+    if bytes.len() != 24 {
+        return Asked::Unreadable;
+    }
+    call_by(word(bytes, 0), word(bytes, 1), word(bytes, 2))
+}
