@@ -143,7 +143,7 @@ OfferedBest p x r = Gives p (offerBest x) (offerAnswer (r .answer)) (r .port)
 abbrev pub Advanced : Port → ℕ → AfterAdvance → Type 0
 Advanced p n r = Gives p (advance n) (advanceAnswer (r .answer)) (r .port)
 
--- Opening: the planner's verdict, and the fresh port of the table. At a refusal the port is handed back all the same; its table is not accepted, so every call on it answers 18.
+-- Opening: the planner's verdict, and the fresh port of the table; the places that belong to no part are free here too. At a refusal the port is handed back all the same; its table is not accepted, so every call on it answers 18.
 pub record Opened (t : Table) (r : AfterOpening) : Type 0 where
   pub verdict : outcomeOf (r .verdict) ≡ opening t
   pub port : view (r .port) ≡ fresh t

@@ -235,6 +235,16 @@ classAt t k = rowAt t k .class
 abbrev pub backlog : Table → ℕ → ℕ
 backlog t k = D * (total (classAt t k) t - sizeOf (rowAt t k)) + send (classAt t k) t * largest (classAt t k) t
 
+-- the rows of a table stand in its places
+pub rows-placed : (t : Table) → length (t .rows) ≡ 32 → length (rowsOf t) ≤ 32
+unfolding rowsOf
+rows-placed t long = rw (length-take (t .count) (t .rows)) (omega arith)
+
+-- LC is the wire size of the best-effort payload
+pub best-is : (t : Table) → bestSize t ≡ wireSize (t .payload)
+unfolding bestSize
+best-is t = refl
+
 module _ (t : Table) (ok : IsAccepted t) where
   pub rows-most : length (rowsOf t) ≤ 32
   unfolding rowsOf

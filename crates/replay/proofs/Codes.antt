@@ -21,7 +21,8 @@ use Rattle.tablefile.specs.Reading.{readFile, Reads}
 use Rattle.machine.specs.declared.AfterOpening.{AfterOpening}
 use Rattle.machine.specs.Calls.{Opened}
 use Rattle.machine.specs.Run.{opened}
-use Rattle.replay.specs.List.{codeOf, countOf, unreadable, listCheck, replayCheck, Listed, Replayed}
+use Rattle.replay.specs.List.{codeOf, countOf, unreadable, listCheck, replayCheck, Replayed}
+use Rattle.replay.specs.Steps.{Listed}
 
 -- numbers are small
 pub fault-small : (f : Fault) → files.numberOf f ≤ 255

@@ -15,7 +15,8 @@ use Rattle.machine.specs.Calls.{Call, Answer, answer, Gives}
 use Rattle.machine.specs.Run.{machine, Run, called}
 use Rattle.machine.proofs.Theorem.{every-run}
 use Rattle.replay.specs.Calls.{answerBytes}
-use Rattle.replay.specs.List.{callAt, lowest, countOf, eventsOf, answersOf, bufferBy, Ran, Steps}
+use Rattle.replay.specs.List.{callAt, lowest, countOf, eventsOf, answersOf, Ran}
+use Rattle.replay.specs.Steps.{Steps}
 use Rattle.replay.proofs.Answered.{answer-length}
 
 -- ---- the lowest number that fails a test

@@ -18,7 +18,7 @@ callBy kind x y = cond (eqb kind 0) (Offer x y) (cond (eqb y 0) (cond (eqb kind 
 unfoldable pub readCall : List ℕ → Asked
 readCall s = cond (eqb (length s) 24) (callBy (wordAt s 0) (wordAt s 1) (wordAt s 2)) Unreadable
 
--- An answer: 5 words. The refusal's number, or 0; the byte-times passed; the ended frame's source, size and instant taken, or 33, 0, 0 for none.
+-- An answer: 5 words. The refusal's number (its place is 0), or 0; the byte-times passed; the ended frame's source, size and instant taken, or 33, 0, 0 for none.
 abbrev pub endedWords : Ended → List ℕ
 endedWords (Reported f) = f .source ∷ f .size ∷ f .taken ∷ []
 endedWords Nothing = 33 ∷ 0 ∷ 0 ∷ []

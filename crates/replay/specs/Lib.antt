@@ -5,3 +5,4 @@ pub mod Fits
 pub mod RoundTrip
 pub mod Calls
 pub mod List
+pub mod Steps

@@ -9,8 +9,7 @@ use Rattle.planner.specs.declared.Table.{Table}
 use Rattle.planner.specs.Opening.{Outcome, accepted, refused, unless, first, opening}
 use Rattle.tablefile.specs.Reading.{readFile}
 use Rattle.machine.specs.declared.Port.{Port}
-use Rattle.machine.specs.State.{view}
-use Rattle.machine.specs.Calls.{Call, offer, offerBest, advance, answer, Gives}
+use Rattle.machine.specs.Calls.{Call, offer, offerBest, advance, answer}
 use Rattle.machine.specs.Run.{Event, event, machine, Run, Demand3}
 use Rattle.replay.specs.declared.Asked.{Asked}
 use Rattle.replay.specs.declared.Asked.the-variants.{Offer, OfferBest, Advance, Unreadable}
@@ -79,7 +78,7 @@ abbrev pub bufferBy : Outcome → Table → List ℕ → List ℕ → List ℕ
 bufferBy accepted t calls buffer = answersOf t calls (countOf calls) ++ drop (40 * countOf calls) buffer
 bufferBy (refused n p) t calls buffer = buffer
 
--- A list that ran: opening and the calls made it, and demand 3 holds of it.
+-- A list that ran: it is a run, from opening by calls that keep their promises, and demand 3 holds of it.
 pub record Ran (t : Table) (es : List Event) : Type 0 where
   pub port : Port
   pub run : Run t es port
@@ -90,13 +89,3 @@ pub record Replayed (file calls before after : List ℕ) (r : ℕ) : Type 0 wher
   pub code : r ≡ codeOf (replayCheck file calls (length before))
   pub buffer : after ≡ bufferBy (replayCheck file calls (length before)) (readFile file .table) calls before
   pub ran : replayCheck file calls (length before) ≡ accepted → Ran (readFile file .table) (eventsOf (readFile file .table) calls (countOf calls))
-
--- ---- what the private functions promise each other
--- One call on a port, its answer at the front of a buffer.
-pub record Steps (p : Port) (c : Call) (q : Port) (before after : List ℕ) : Type 0 where
-  pub gives : Gives p c (answer (view p) c) q
-  pub bytes : after ≡ answerBytes (answer (view p) c) ++ drop 40 before
-
--- All calls on a port that opening gave.
-abbrev pub Listed : Port → List ℕ → List ℕ → List ℕ → Type 0
-Listed p calls before after = (t : Table) → Run t [] p → Ran t (eventsOf t calls (countOf calls)) × (after ≡ bufferBy accepted t calls before)

@@ -38,9 +38,10 @@ fn write_passed(out: &mut [u8], n: u64, ended: Ended)
     requires { ⌜ 40 ≤ length (now out) ⌝ }
     ensures { λ _. ⌜ now (out .exit) ≡ answerBytes (passed n ended) ++ drop 40 (now (out .entry)) ⌝ }
 {
-    match ended {
-        Ended::Reported(f) => put_answer(out, 0, n, f.source as u64, f.size as u64, f.taken),
-        Ended::Nothing => put_answer(out, 0, n, 33, 0, 0),
+    if let Ended::Reported(f) = ended {
+        put_answer(out, 0, n, f.source as u64, f.size as u64, f.taken);
+    } else {
+        put_answer(out, 0, n, 33, 0, 0);
     }
 }
 

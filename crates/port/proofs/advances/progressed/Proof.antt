@@ -1,6 +1,7 @@
 -- `port::advances::progressed` meets its contract: the run on a sound record's numbers is the machine's progress.
 use mathlib.Core.Bool.{true}
 use mathlib.Core.Path.{_≡_}
+use native.Mathlib.Omega.{arith}
 use Rattle.planner.specs.declared.Class.the-variants.{A, B}
 use Rattle.machine.specs.State.{view}
 use Rattle.machine.specs.Record.{sound}
@@ -25,7 +26,7 @@ fixed-requires c κs =
 run-requires : tie.Need-run-requires
 run-requires c κs =
     let s = c .before .before in
-    (may-run (s .args .p) (places s) (s .pre .0) (s .args .n) (c .before .hot .result) (c .fixed .result) (c .before .hot .ensures) (c .fixed .ensures), s .pre .1 .0)
+    (may-run (s .args .p) (places s) (s .pre .0) (s .args .n) (c .before .hot .result) (c .fixed .result) (c .before .hot .ensures) (c .fixed .ensures), omega (arith, s .pre .1 .0))
 
 rebuilt-requires : tie.Need-rebuilt-requires
 rebuilt-requires c κs =

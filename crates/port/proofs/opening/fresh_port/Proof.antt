@@ -1,9 +1,7 @@
 -- `port::opening::fresh_port` meets its contract: no place of a row has an instant.
-use Prim.Native.Nat.{_≤_}
 use mathlib.Core.Path.{_≡_, refl}
-use native.Mathlib.Omega.{arith}
 use lib.IntN.{pos}
-use lib.ListN.{length, length-take, replicate}
+use lib.ListN.{length, replicate}
 use Rattle.planner.specs.declared.Table.{Table}
 use Rattle.planner.specs.Rows.{rowsOf}
 use Rattle.planner.proofs.Laws as law
@@ -15,13 +13,9 @@ use Rattle.port.proofs.Waits.{no-instants}
 use Rattle.port.proofs.opening.fresh_port.Statement.{statement}
 use Rattle.port.proofs.opening.fresh_port.Tie as tie
 
-few : (t : Table) → length (t .rows) ≡ 32 → length (rowsOf t) ≤ 32
-unfolding rowsOf
-few t h = rw length-take (omega arith)
-
 is-fresh : (t : Table) → length (t .rows) ≡ 32 → view (record { table = t; clock = 0; credita = pos 0; creditb = pos 0; a = record { count = 0; frames = replicate 32 zeroFrame }; b = record { count = 0; frames = replicate 32 zeroFrame }; best = record { count = 0; frames = replicate 16 zeroFrame }; last = replicate 32 zeroLast; wire = Free }) ≡ fresh t
 unfolding view fresh
-is-fresh t h = rw (no-instants (length (rowsOf t)) 32 (few t h)) refl
+is-fresh t h = rw (no-instants (length (rowsOf t)) 32 (law.rows-placed t h)) refl
 
 returns : tie.Need-returns
 returns c = is-fresh (c .args .table) (law.places (c .args .table) _ (c .good .0))

@@ -7,7 +7,8 @@ use lib.ListN.{length, take}
 use Rattle.planner.specs.declared.Class.{Class}
 use Rattle.planner.specs.declared.Class.the-variants.{A, B}
 use Rattle.planner.specs.Wire.{wireSize}
-use Rattle.planner.specs.Rows.{rowsOf, bestSize}
+use Rattle.planner.specs.Rows.{rowsOf}
+use Rattle.planner.proofs.Laws as law
 use Rattle.machine.specs.declared.Frame.{Frame}
 use Rattle.machine.specs.declared.Port.{Port}
 use Rattle.machine.specs.State.{Instant, instantOf, view}
@@ -33,8 +34,8 @@ wireOk p = onSending (sendingTest (p .table) (instants p) (p .clock)) (p .wire)
 
 module _ (p : Port) (places : Places p) (a : p .a .count ≤ 32) (b : p .b .count ≤ 32) (best : p .best .count ≤ 16) where
   by-parts : framesTest (view p) ≡ ((queueOk A p (p .a .count) (p .a .frames) && queueOk B p (p .b .count) (p .b .frames)) && (bestOk p (wireSize (p .table .payload)) && wireOk p))
-  unfolding view framesTest bestSize
-  by-parts = rw (waits (p .a .count) (p .a .frames) (rw (places .a) a), waits (p .b .count) (p .b .frames) (rw (places .b) b), waits (p .best .count) (p .best .frames) (rw (places .best) best)) refl
+  unfolding view framesTest
+  by-parts = rw (law.best-is (p .table), waits (p .a .count) (p .a .frames) (rw (places .a) a), waits (p .b .count) (p .b .frames) (rw (places .b) b), waits (p .best .count) (p .best .frames) (rw (places .best) best)) refl
 
   a-fails : {r : Bool} → r ≡ queueOk A p (p .a .count) (p .a .frames) → not r ≡ true → false ≡ framesTest (view p)
   a-fails e h = rw (by-parts, fails e h) refl

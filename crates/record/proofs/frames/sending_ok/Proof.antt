@@ -7,7 +7,7 @@ use lib.ListN.{length, getD}
 use borrow.Author.Tests.{lt-ltb, le-ltb, le-leb, lt-leb}
 use Rattle.planner.specs.declared.Table.{Table}
 use Rattle.planner.specs.Wire.{wireSize}
-use Rattle.planner.specs.Rows.{noRow, rowsOf, bestSize}
+use Rattle.planner.specs.Rows.{noRow, rowsOf}
 use Rattle.planner.proofs.Laws as law
 use Rattle.machine.specs.declared.Frame.{Frame}
 use Rattle.machine.specs.State.{Instant}
@@ -33,9 +33,9 @@ module _ (t : Table) (ls : List Instant) (now : ℕ) (f : Frame) (left : ℕ) wh
         rw (le-leb 1 left some, le-leb left (f .size) rest, lt-ltb (f .source) (length (rowsOf t)) inside, law.row-at t long few (f .source) h) e
 
     of-best : t .count ≤ f .source → {most : ℕ} {r : Bool} → most ≡ wireSize (t .payload) → r ≡ bestTest most now f → r ≡ sendingTest t ls now f left
-    unfolding sendingTest bestSize
+    unfolding sendingTest
     of-best h m e =
-        rw (le-leb 1 left some, le-leb left (f .size) rest, le-ltb (f .source) (length (rowsOf t)) (rw (law.rows-length t long few) h), ← m) e
+        rw (law.best-is t, le-leb 1 left some, le-leb left (f .size) rest, le-ltb (f .source) (length (rowsOf t)) (rw (law.rows-length t long few) h), ← m) e
 
 returns : tie.Need-returns
 returns c = none-left _ _ _ _ _ (c .if1 .taken)

@@ -5,7 +5,8 @@ use Prim.Native.Nat.{ℕ}
 use Rattle.machine.specs.declared.Port.{Port}
 use Rattle.machine.specs.Calls.{Call}
 use Rattle.replay.specs.declared.Asked.{Asked}
-use Rattle.replay.specs.List.{callOf, Steps}
+use Rattle.replay.specs.List.{callOf}
+use Rattle.replay.specs.Steps.{Steps}
 use borrow.Author.Needs.{needs}
 use Rattle.replay.proofs.list.step.Statement.{statement}
 use Rattle.replay.proofs.list.step.Tie as tie
