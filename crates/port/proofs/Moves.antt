@@ -3,9 +3,9 @@ use Prim.Native.Nat.{ℕ, zero, suc, _+_, _-_, _*_, _≤_}
 use mathlib.Core.Bool.{Bool, true, false, cond, _&&_}
 use mathlib.Core.Path.{_≡_, refl, sym, _∙_, ap}
 use native.Mathlib.Omega.{arith}
+use native.Mathlib.Nat.{mul-le-mul-left}
 use lib.IntN.{ℤ}
 use lib.Dec.{leb}
-use lib.Signed.{mag}
 use mir.Syntax.{w64}
 use mir.Val.{SFits, toZ, ofZ}
 use Rattle.port.specs.declared.Sender.{Sender}
@@ -13,7 +13,7 @@ use Rattle.port.specs.declared.Sender.the-variants.{Nobody, ClassA, Clas
 use Rattle.port.specs.declared.Hot.{Hot}
 use Rattle.port.specs.declared.Fixed.{Fixed}
 use Rattle.port.specs.declared.Ran.{Ran}
-use Rattle.port.specs.Bytes.{creditAfter, isA, isB, isNobody, readyBy, goesA, goesB, goesBest, nextBy, goes, onFree, startedHot, passedHot, tickHot, endedHot, furtherHot, onwardHot, runHot, Near}
+use Rattle.port.specs.Bytes.{creditAfter, isA, isB, isNobody, readyBy, goesA, goesB, goesBest, nextBy, goes, onFree, startedHot, passedBy, tickHot, endedHot, onwardHot, runHot, Near}
 use Rattle.port.proofs.Signs.{plain, mag-after}
 
 -- ---- who goes out
@@ -32,13 +32,13 @@ pub holds : (h : Hot) (x : Fixed) → isNobody (h .sender) ≡ false → h ≡ s
 unfolding startedHot
 holds h x e = rw e refl
 
--- ---- a byte passes
-pub credit-of : {on still yes : Bool} {z r : ℤ} (waits : Bool) (left i s : ℕ) → on ≡ yes → still ≡ (on && leb 2 left) → SFits w64 z → SFits w64 r → r ≡ creditAfter on still waits i s (toZ w64 (ofZ w64 z)) → toZ w64 (ofZ w64 r) ≡ creditAfter yes (yes && leb 2 left) waits i s z
-credit-of waits left i s e f g k q = rw (plain k) (rw (plain g, f, e) at q)
+-- ---- bytes pass
+pub credit-of : {on still yes : Bool} {z r : ℤ} {j t : ℕ} (waits : Bool) (n left i s : ℕ) → on ≡ yes → still ≡ (on && leb (suc n) left) → j ≡ n * i → t ≡ n * s → SFits w64 z → SFits w64 r → r ≡ creditAfter on still waits j t (toZ w64 (ofZ w64 z)) → toZ w64 (ofZ w64 r) ≡ creditAfter yes (yes && leb (suc n) left) waits (n * i) (n * s) z
+credit-of waits n left i s e f p q g k a = rw (plain k) (rw (plain g, f, e, p, q) at a)
 
-pub passes : (h : Hot) (x : Fixed) {a b : ℤ} {l : ℕ} → a ≡ creditAfter (isA (h .sender)) (isA (h .sender) && leb 2 (h .left)) (h .waitsa) (x .idlea) (x .senda) (h .credita) → b ≡ creditAfter (isB (h .sender)) (isB (h .sender) && leb 2 (h .left)) (h .waitsb) (x .idleb) (x .sendb) (h .creditb) → l ≡ h .left - 1 → record { credita = a; creditb = b; sender = h .sender; frame = h .frame; left = l; moved = h .moved; waitsa = h .waitsa; waitsb = h .waitsb; waitsbest = h .waitsbest } ≡ passedHot h x
-unfolding passedHot
-passes h x e f g = rw (e, f, g) refl
+pub passes : (n : ℕ) (h : Hot) (x : Fixed) {a b : ℤ} {l : ℕ} → a ≡ creditAfter (isA (h .sender)) (isA (h .sender) && leb (suc n) (h .left)) (h .waitsa) (n * x .idlea) (n * x .senda) (h .credita) → b ≡ creditAfter (isB (h .sender)) (isB (h .sender) && leb (suc n) (h .left)) (h .waitsb) (n * x .idleb) (n * x .sendb) (h .creditb) → l ≡ h .left - n → record { credita = a; creditb = b; sender = h .sender; frame = h .frame; left = l; moved = h .moved; waitsa = h .waitsa; waitsb = h .waitsb; waitsbest = h .waitsbest } ≡ passedBy n h x
+unfolding passedBy
+passes n h x e f g = rw (e, f, g) refl
 
 -- ---- how far credits move
 one-of : (b : Bool) (P : Hot → Type 0) {g h : Hot} → P g → P h → P (cond b g h)
@@ -62,25 +62,17 @@ pub near-started : {m : ℕ} {h : Hot} {x : Fixed} → Near m h x → Near m (st
 unfolding startedHot
 near-started {m} {h} {x} n = one-of (isNobody (h .sender)) (λ g. Near m g x) (near-free n) n
 
-near-passed : {m : ℕ} {h : Hot} {x : Fixed} → Near m h x → Near (m + 1000002) (passedHot h x) x
-unfolding passedHot
-near-passed {m} {h} {x} n =
+pub near-passed : {m : ℕ} {h : Hot} {x : Fixed} (n : ℕ) → 1 ≤ n → Near m h x → Near (m + n * 1000001) (passedBy n h x) x
+unfolding passedBy
+near-passed {m} {h} {x} n some v =
     record {
-      idlea = n .idlea;
-      senda = n .senda;
-      idleb = n .idleb;
-      sendb = n .sendb;
-      credita = omega (arith, n .credita, mag-after (isA (h .sender)) (isA (h .sender) && leb 2 (h .left)) (h .waitsa) (x .idlea) (x .senda) (h .credita) (n .idlea) (n .senda));
-      creditb = omega (arith, n .creditb, mag-after (isB (h .sender)) (isB (h .sender) && leb 2 (h .left)) (h .waitsb) (x .idleb) (x .sendb) (h .creditb) (n .idleb) (n .sendb));
+      idlea = v .idlea;
+      senda = v .senda;
+      idleb = v .idleb;
+      sendb = v .sendb;
+      credita = omega (arith, v .credita, mag-after (isA (h .sender)) (isA (h .sender) && leb (suc n) (h .left)) (h .waitsa) (n * x .idlea) (n * x .senda) (h .credita) (mul-le-mul-left n (v .idlea)) (mul-le-mul-left n (v .senda)));
+      creditb = omega (arith, v .creditb, mag-after (isB (h .sender)) (isB (h .sender) && leb (suc n) (h .left)) (h .waitsb) (n * x .idleb) (n * x .sendb) (h .creditb) (mul-le-mul-left n (v .idleb)) (mul-le-mul-left n (v .sendb)));
     }
-
-pub ticks : {g : Hot} (h : Hot) (x : Fixed) → g ≡ startedHot h x → passedHot g x ≡ tickHot h x
-unfolding tickHot
-ticks h x e = ap (λ (k : Hot). passedHot k x) e
-
-pub near-tick : {m : ℕ} {h : Hot} {x : Fixed} → Near m h x → Near (m + 1000002) (tickHot h x) x
-unfolding tickHot
-near-tick n = near-passed (near-started n)
 
 pub nearer : {m k : ℕ} {h : Hot} {x : Fixed} → m ≤ k → Near m h x → Near k h x
 nearer e n = record { idlea = n .idlea; senda = n .senda; idleb = n .idleb; sendb = n .sendb; credita = omega (arith, e, n .credita); creditb = omega (arith, e, n .creditb) }
@@ -90,9 +82,9 @@ pub no-run : (h : Hot) (x : Fixed) → runHot 0 h x ≡ record { hot = h; passed
 unfolding runHot
 no-run h x = refl
 
-pub one-more : (i : ℕ) (h g k : Hot) (x : Fixed) (b : Bool) → runHot i h x ≡ record { hot = g; passed = i; ended = false } → k ≡ tickHot g x → b ≡ endedHot k → runHot (i + 1) h x ≡ record { hot = k; passed = i + 1; ended = b }
+pub one-more : (i : ℕ) (h g k : Hot) (x : Fixed) → runHot i h x ≡ record { hot = g; passed = i; ended = false } → k ≡ tickHot g x → runHot (suc i) h x ≡ record { hot = k; passed = suc i; ended = endedHot k }
 unfolding runHot
-one-more i h g k x b e f d = let z : i + 1 ≡ suc i = omega arith in rw (z, d, f) (ap (λ (r : Ran). onwardHot r x) e)
+one-more i h g k x e f = rw f (ap (λ (r : Ran). onwardHot r x) e)
 
 stays-once : (j : ℕ) (h : Hot) (x : Fixed) (r : Ran) → r .ended ≡ true → runHot j h x ≡ r → runHot (suc j) h x ≡ r
 unfolding runHot

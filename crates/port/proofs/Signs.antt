@@ -3,13 +3,13 @@ use Prim.Native.Nat.{ℕ, zero, suc, _+_, _-_, _≤_, _<_, _^_}
 use mathlib.Core.Bool.{Bool, true, false, cond}
 use mathlib.Core.Path.{_≡_, refl, sym, _∙_, ap}
 use native.Mathlib.Omega.{arith}
-use lib.IntN.{ℤ, pos, negsuc, subℕ, _+ℤ_, _-ℤ_}
-use lib.Dec.{ltb, leb}
-use lib.Signed.{mag, ltZ, leZ}
+use lib.IntN.{ℤ, pos, negsuc, natAbs, subℕ, _+ℤ_, _-ℤ_}
+use lib.Dec.{T, ltb, leb}
+use lib.Signed.{mag, ltZ, leZ, nonNeg}
 use mir.Syntax.{w64}
-use mir.Val.{SFits, toZ, ofZ}
+use mir.Val.{Fits, SFits, toZ, ofZ}
 use mir.Facts.{toZ-ofZ, toZ-pos}
-use borrow.Author.Tests.{ltb-true, ltb-false, leb-true, leb-false}
+use borrow.Author.Tests.{ltb-true, ltb-false, leb-true, leb-false, le-ltb}
 use Rattle.machine.specs.Time.{upToZero, rise}
 use Rattle.port.specs.Bytes.{earnedBy, settledBy, creditAfter, readyBy}
 
@@ -65,6 +65,27 @@ sends z waits f e = may-send z waits (rw (plain f) at e)
 pub does-not-send : (z : ℤ) (waits : Bool) → SFits w64 z → leZ (pos 0) (toZ w64 (ofZ w64 z)) ≡ false → false ≡ readyBy z waits
 does-not-send z waits f e = may-not-send z waits (rw (plain f) at e)
 
+-- ---- −1 − z of a z below 0
+turned : (z : ℤ) → leZ (pos 0) z ≡ false → negsuc 0 -ℤ z ≡ pos (mag z)
+turned (pos n) e = absurd (omega (arith, leb-false 0 n e))
+turned (negsuc n) e = rw (le-ltb (suc n) 1 (omega arith)) (ap pos (omega arith))
+
+module _ (z : ℤ) (f : SFits w64 z) (e : leZ (pos 0) (toZ w64 (ofZ w64 z)) ≡ false) where
+  turned-plain : negsuc 0 -ℤ toZ w64 (ofZ w64 z) ≡ pos (mag z)
+  turned-plain = rw (plain f) (turned z (rw (plain f) at e))
+
+  pub turned-fits : SFits w64 (negsuc 0 -ℤ toZ w64 (ofZ w64 z))
+  turned-fits = rw turned-plain (small (f .sfits))
+
+  turned-read : toZ w64 (ofZ w64 (negsuc 0 -ℤ toZ w64 (ofZ w64 z))) ≡ pos (mag z)
+  turned-read = plain turned-fits ∙ turned-plain
+
+  pub turned-natural : T (nonNeg (toZ w64 (ofZ w64 (negsuc 0 -ℤ toZ w64 (ofZ w64 z))))) × Fits w64 (natAbs (toZ w64 (ofZ w64 (negsuc 0 -ℤ toZ w64 (ofZ w64 z)))))
+  turned-natural = let h = f .sfits in rw turned-read (tt, record { fits = omega arith })
+
+  pub turned-back : natAbs (toZ w64 (ofZ w64 (negsuc 0 -ℤ toZ w64 (ofZ w64 z)))) ≡ mag z
+  turned-back = rw turned-read refl
+
 -- ---- magnitudes
 mag-difference : (a b : ℕ) → mag (subℕ a b) ≤ a + b
 mag-difference a b = go (ltb a b)
@@ -96,10 +117,10 @@ mag-settled true waits c = omega arith
 mag-settled false true c = omega arith
 mag-settled false false c = mag-cap c
 
-mag-earned : (on waits : Bool) (i s : ℕ) (c : ℤ) → i ≤ 1000000 → s ≤ 1000000 → mag (earnedBy on waits i s c) ≤ mag c + 1000001
+mag-earned : (on waits : Bool) (i s : ℕ) (c : ℤ) {most : ℕ} → i ≤ most → s ≤ most → mag (earnedBy on waits i s c) ≤ mag c + most + 1
 mag-earned true waits i s c h g = omega (arith, mag-sub c s)
 mag-earned false true i s c h g = omega (arith, mag-add c i)
 mag-earned false false i s c h g = omega (arith, mag-rise c i)
 
-pub mag-after : (on still waits : Bool) (i s : ℕ) (c : ℤ) → i ≤ 1000000 → s ≤ 1000000 → mag (creditAfter on still waits i s c) ≤ mag c + 1000002
+pub mag-after : (on still waits : Bool) (i s : ℕ) (c : ℤ) {most : ℕ} → i ≤ most → s ≤ most → mag (creditAfter on still waits i s c) ≤ mag c + most + 1
 mag-after on still waits i s c h g = omega (arith, mag-settled still waits (earnedBy on waits i s c), mag-earned on waits i s c h g)

@@ -1,5 +1,5 @@
 -- One byte-time on the few numbers that it changes. No public promise cites this file.
-use Prim.Native.Nat.{ℕ, zero, suc, _+_, _-_, _*_, _≤_}
+use Prim.Native.Nat.{ℕ, zero, suc, _+_, _-_, _*_, _≤_, _<_}
 use mathlib.Core.Bool.{Bool, true, false, not, cond, _&&_}
 use mathlib.Core.List.{List, [], _∷_}
 use mathlib.Core.Path.{_≡_}
@@ -105,12 +105,38 @@ passedHot h x =
       waitsbest = h .waitsbest;
     }
 
+-- The same of n byte-times at once: n times the slopes, n bytes fewer.
+unfoldable pub passedBy : ℕ → Hot → Fixed → Hot
+passedBy n h x =
+    record {
+      credita = creditAfter (isA (h .sender)) (isA (h .sender) && leb (suc n) (h .left)) (h .waitsa) (n * x .idlea) (n * x .senda) (h .credita);
+      creditb = creditAfter (isB (h .sender)) (isB (h .sender) && leb (suc n) (h .left)) (h .waitsb) (n * x .idleb) (n * x .sendb) (h .creditb);
+      sender = h .sender;
+      frame = h .frame;
+      left = h .left - n;
+      moved = h .moved;
+      waitsa = h .waitsa;
+      waitsb = h .waitsb;
+      waitsbest = h .waitsbest;
+    }
+
 unfoldable pub tickHot : Hot → Fixed → Hot
 tickHot h x = passedHot (startedHot h x) x
 
 -- A frame has ended: someone has the wire and no byte is left.
 unfoldable pub endedHot : Hot → Bool
 endedHot h = not (isNobody (h .sender)) && leb (h .left) 0
+
+-- On a free wire no frame of a class goes out in the byte-times 2 to m.
+unfoldable pub Shut : ℕ → Bool → ℤ → ℕ → Type 0
+Shut m waits c i = (k s : ℕ) → 0 < k → k < m → readyBy (creditAfter false false waits (k * i) s c) waits ≡ false
+
+-- Some m of the next n byte-times can pass at once: no frame ends before the last of them, and none goes out.
+pub record AtOnce (m n : ℕ) (h : Hot) (x : Fixed) : Type 0 where
+  pub some : 1 ≤ m
+  pub within : m ≤ n
+  pub sending : isNobody (h .sender) ≡ false → 1 < m → m ≤ h .left
+  pub free : isNobody (h .sender) ≡ true → 1 < m → Shut m (h .waitsa) (h .credita) (x .idlea) × Shut m (h .waitsb) (h .creditb) (x .idleb) × (h .waitsbest ≡ false)
 
 abbrev pub furtherHot : Bool → Ran → Fixed → Ran
 furtherHot true r x = r

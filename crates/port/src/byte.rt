@@ -1,11 +1,11 @@
-// One byte-time, on the few numbers that it changes.
+// Byte-times, on the few numbers that they change.
 ghost use mathlib.Core.Path.{_≡_};
-ghost use Prim.Native.Nat.{_+_, _-_, _≤_};
+ghost use Prim.Native.Nat.{suc, _-_, _*_, _≤_};
 ghost use mathlib.Core.Bool.{_&&_};
 ghost use lib.Dec.{leb};
 ghost use lib.Signed.{mag};
 ghost use Rattle.machine.specs.Time.{upToZero};
-ghost use Rattle.port.specs.Bytes.{settledBy, creditAfter, isA, isB, isBest, isNobody, readyBy, goesA, goesB, goesBest, nextBy, onFree, startedHot, passedHot, tickHot, endedHot, runHot, Near};
+ghost use Rattle.port.specs.Bytes.{settledBy, creditAfter, isA, isB, isBest, isNobody, readyBy, goesA, goesB, goesBest, nextBy, onFree, startedHot, passedBy, endedHot, Shut, AtOnce, runHot, Near};
 use crate::Fixed;
 use crate::Hot;
 use crate::Ran;
@@ -34,14 +34,13 @@ fn lowered(still: bool, waits: bool, credit: i64) -> i64
     up_to_zero(credit)
 }
 
-// A class's credit after a byte-time: steps 2 and 4. `on`, its frame is on the wire as the byte passes; `still`, and afterwards
-// too; `waits`, it has a frame waiting.
-fn credit_after(on: bool, still: bool, waits: bool, idle: u32, send: u32, credit: i64) -> i64
+// A class's credit after byte-times in which it earns `idle` or pays `send`: steps 2 and 4. `on`, its frame is on the wire as the
+// bytes pass; `still`, and afterwards too; `waits`, it has a frame waiting.
+fn credit_after(on: bool, still: bool, waits: bool, idle: u64, send: u64, credit: i64) -> i64
     requires { ⌜ mag credit ≤ 1125899906842624 ⌝ }
-    requires { ⌜ idle ≤ 1000000 ⌝ }
-    requires { ⌜ send ≤ 1000000 ⌝ }
+    requires { ⌜ idle ≤ 65535000000 ⌝ }
+    requires { ⌜ send ≤ 65535000000 ⌝ }
     ensures { λ r. ⌜ r ≡ creditAfter on still waits idle send credit ⌝ }
-    ensures near { λ r. ⌜ mag r ≤ mag credit + 1000002 ⌝ }
 {
     if on {
         return lowered(still, waits, credit - send as i64);
@@ -205,46 +204,63 @@ fn started(h: Hot, x: Fixed) -> Hot
     h
 }
 
-// Whether a sender still has the wire after the byte.
-fn keeps(on: bool, left: u32) -> bool
-    ensures { λ r. ⌜ r ≡ on && leb 2 left ⌝ }
+// Whether a sender still has the wire after n bytes.
+fn keeps(on: bool, left: u32, n: u64) -> bool
+    ensures { λ r. ⌜ r ≡ on && leb (suc n) left ⌝ }
 {
     if on {
-        return 2 <= left;
+        return n < left as u64;
     }
     false
 }
 
-fn one_less(left: u32) -> u32
-    ensures { λ r. ⌜ r ≡ left - 1 ⌝ }
+fn fewer(left: u32, n: u64) -> u32
+    ensures { λ r. ⌜ r ≡ left - n ⌝ }
 {
-    if left == 0 { 0 } else { left - 1 }
+    if left as u64 <= n { 0 } else { left - n as u32 }
 }
 
-// Steps 2, 3 and 4: a byte passes.
-fn passed(h: Hot, x: Fixed) -> Hot
+// A slope over n byte-times.
+fn over(slope: u32, n: u64) -> u64
+    requires { ⌜ slope ≤ 1000000 ⌝ }
+    requires { ⌜ n ≤ 65535 ⌝ }
+    ensures { λ r. ⌜ r ≡ n * slope ⌝ }
+    ensures { λ r. ⌜ r ≤ 65535000000 ⌝ }
+{
+    n * slope as u64
+}
+
+// Steps 2, 3 and 4 of n byte-times at once: n bytes of a frame, or of a free wire, pass.
+fn passed(h: Hot, x: Fixed, n: u64) -> Hot
     requires { ⌜ Near 1125899906842624 h x ⌝ }
-    ensures { λ r. ⌜ r ≡ passedHot h x ⌝ }
+    requires { ⌜ n ≤ 65535 ⌝ }
+    ensures { λ r. ⌜ r ≡ passedBy n h x ⌝ }
 {
     let who = h.sender;
     let a = is_a(who);
     let b = is_b(who);
     let left = h.left;
-    let credita = credit_after(a, keeps(a, left), h.waitsa, x.idlea, x.senda, h.credita);
-    let creditb = credit_after(b, keeps(b, left), h.waitsb, x.idleb, x.sendb, h.creditb);
+    let credita = credit_after(
+        a,
+        keeps(a, left, n),
+        h.waitsa,
+        over(x.idlea, n),
+        over(x.senda, n),
+        h.credita,
+    );
+    let creditb = credit_after(
+        b,
+        keeps(b, left, n),
+        h.waitsb,
+        over(x.idleb, n),
+        over(x.sendb, n),
+        h.creditb,
+    );
     let mut r = h;
     r.credita = credita;
     r.creditb = creditb;
-    r.left = one_less(left);
+    r.left = fewer(left, n);
     r
-}
-
-// One byte-time.
-fn tick(h: Hot, x: Fixed) -> Hot
-    requires { ⌜ Near 1125899906842624 h x ⌝ }
-    ensures { λ r. ⌜ r ≡ tickHot h x ⌝ }
-{
-    passed(started(h, x), x)
 }
 
 // A frame has ended: someone has the wire and no byte is left.
@@ -258,6 +274,49 @@ pub fn has_ended(h: Hot) -> bool
     h.left <= 0
 }
 
+// How many of n byte-times a free wire can pass before a class may send: all if no frame waits, else those that bring its credit to 0.
+fn shut(waits: bool, credit: i64, idle: u32, n: u64) -> u64
+    requires { ⌜ 1 ≤ n ⌝ }
+    ensures { λ r. ⌜ 1 ≤ r ⌝ }
+    ensures { λ r. ⌜ r ≤ n ⌝ }
+    ensures { λ r. ⌜ Shut r waits credit idle ⌝ }
+{
+    if !waits {
+        return n;
+    }
+    if 0 <= credit {
+        return 1;
+    }
+    if idle < 1 {
+        return n;
+    }
+    let before = (-1 - credit) as u64 / idle as u64;
+    if before < n { before + 1 } else { n }
+}
+
+// How many of n byte-times pass at once: those to the frame's end; on a free wire those until a class may send.
+fn at_once(h: Hot, x: Fixed, n: u64) -> u64
+    requires { ⌜ 1 ≤ n ⌝ }
+    ensures { λ r. ⌜ AtOnce r n h x ⌝ }
+{
+    let who = h.sender;
+    if is_nobody(who) {
+        if h.waitsbest {
+            return 1;
+        }
+        let a = shut(h.waitsa, h.credita, x.idlea, n);
+        return shut(h.waitsb, h.creditb, x.idleb, a);
+    }
+    let left = h.left as u64;
+    if left < 2 {
+        return 1;
+    }
+    if left < n {
+        return left;
+    }
+    n
+}
+
 // Byte-times until a frame ends or n have passed.
 pub fn run(h: Hot, x: Fixed, n: u64) -> Ran
     requires { ⌜ Near 1099511627776 h x ⌝ }
@@ -267,8 +326,10 @@ pub fn run(h: Hot, x: Fixed, n: u64) -> Ran
     let mut hot = h;
     let mut i: u64 = 0;
     while i < n {
-        hot = tick(hot, x);
-        i += 1;
+        hot = started(hot, x);
+        let k = at_once(hot, x, n - i);
+        hot = passed(hot, x, k);
+        i += k;
         if has_ended(hot) {
             return Ran {
                 hot,

@@ -16,14 +16,14 @@ pub enum Sender {
     BestEffort,
 }
 
-// What byte-times change in one advance: the credits; who has the wire, its frame and the bytes left; whether that frame left its
-// queue in this advance; and whether frames wait.
+// What byte-times change in one advance: the credits; the frame on the wire and its bytes left; whose it is, and whether it left its
+// queue in this advance; and whether frames wait. The wide fields stand first: padding between fields would be copied at each turn.
 pub struct Hot {
     pub credita: i64,
     pub creditb: i64,
-    pub sender: Sender,
     pub frame: Frame,
     pub left: u32,
+    pub sender: Sender,
     pub moved: bool,
     pub waitsa: bool,
     pub waitsb: bool,

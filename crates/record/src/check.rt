@@ -78,17 +78,23 @@ fn frames_ok(p: Port, limits: [u64; 32]) -> bool
     let t = p.table;
     let last = p.last;
     let clock = p.clock;
-    let a = p.a;
-    if !queue_ok(Class::A, a, t, limits, last, clock) {
-        return false;
+    if 0 < p.a.count {
+        let a = p.a;
+        if !queue_ok(Class::A, a, t, limits, last, clock) {
+            return false;
+        }
     }
-    let b = p.b;
-    if !queue_ok(Class::B, b, t, limits, last, clock) {
-        return false;
+    if 0 < p.b.count {
+        let b = p.b;
+        if !queue_ok(Class::B, b, t, limits, last, clock) {
+            return false;
+        }
     }
-    let best = p.best;
-    if !best_ok(best, wire_size(t.payload), clock) {
-        return false;
+    if 0 < p.best.count {
+        let best = p.best;
+        if !best_ok(best, wire_size(t.payload), clock) {
+            return false;
+        }
     }
     let w = p.wire;
     wire_ok(w, t, limits, last, clock)

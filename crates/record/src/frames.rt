@@ -67,8 +67,8 @@ pub fn best_frame_ok(f: Frame, most: u64, clock: u64) -> bool
     f.taken <= clock
 }
 
-// One frame of a class's queue or of the wire.
-pub fn frame_ok(
+// The frame on the wire, where it is a row's.
+fn frame_ok(
     class: Class,
     f: Frame,
     t: Table,
@@ -108,7 +108,14 @@ pub fn queue_ok(
     let mut i: usize = 0;
     while i < n {
         let f = q.frames[i];
-        if !frame_ok(class, f, t, limits, last, clock) {
+        let k = f.source as usize;
+        if t.count <= k {
+            return false;
+        }
+        let row = t.rows[k];
+        let l = last[k];
+        let limit = limits[k];
+        if !row_frame_ok(class, f, row, l, limit, clock) {
             return false;
         }
         i += 1;

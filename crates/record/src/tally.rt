@@ -32,8 +32,10 @@ fn with_queue(counts: [u8; 32], q: Queue) -> [u8; 32]
     let mut i: usize = 0;
     while i < n {
         let f = q.frames[i];
-        let more = with_source(next, f.source);
-        next = more;
+        let k = f.source as usize;
+        if k < 32 {
+            next[k] = next[k] + 1;
+        }
         i += 1;
     }
     next

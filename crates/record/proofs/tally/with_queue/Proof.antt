@@ -1,21 +1,28 @@
 -- `record::tally::with_queue` meets its contract: at i the frames from i on are still to be counted.
-use Rattle.record.specs.Steps.{Counts}
 use Prim.Native.Nat.{_-_, _≤_}
-use mathlib.Core.Path.{_≡_, refl}
+use mathlib.Core.Logic.{⊎-elim}
+use mathlib.Core.Path.{_≡_, refl, _∙_}
 use native.Mathlib.Omega.{arith}
+use lib.Dec.{eqb}
+use lib.ListN.{length, getD, length-set}
+use mir.Syntax.{w8}
+use borrow.Kind.Array.{good-length, eInt}
+use borrow.Author.Needs.{needs}
+use Rattle.machine.specs.Record.{count}
+use Rattle.record.specs.Steps.{Counts, Counted, zeroFrame}
 use Rattle.record.proofs.Walk.{queue-places}
-use Rattle.record.proofs.Counting.{Counting, below, one-more, all-counted}
+use Rattle.record.proofs.Counting.{Counting, below, counted, not-counted, one-more, all-counted}
 use Rattle.record.proofs.tally.with_queue.Statement.{statement}
 use Rattle.record.proofs.tally.with_queue.Tie as tie
 
 abbrev Inv-loop : tie.InvT-loop
-Inv-loop q n next₀ i₀ next i = (n ≡ q .count) × (i ≤ q .count) × Counting next₀ (q .frames) (q .count) i next
+Inv-loop q n next₀ i₀ next i = (n ≡ q .count) × (i ≤ q .count) × (length next ≡ 32) × Counting next₀ (q .frames) (q .count) i next
 
 abbrev μ-loop : tie.MeasureT-loop
 μ-loop q n next₀ i₀ next i = n - i
 
 loop-holds : tie.Need-loop-holds Inv-loop μ-loop
-loop-holds c = (refl, omega arith, λ k h. refl)
+loop-holds c = (refl, omega arith, good-length (eInt w8) 32 (c .args .counts) _ (c .good .0), λ k h. refl)
 
 mul-f : tie.Need-mul-f Inv-loop μ-loop
 mul-f c = omega arith
@@ -23,12 +30,23 @@ mul-f c = omega arith
 element-copy-out-f : tie.Need-element-copy-out-f Inv-loop μ-loop
 element-copy-out-f c = omega arith
 
-with-source-requires : tie.Need-with-source-requires Inv-loop μ-loop
-with-source-requires c κs =
-    let s = c .before .before .before in
-    let l = c .before .before .loop in
-    let few : Counts 132 (l .next) = below (s .args .counts) (s .args .t2 .frames) (s .args .t2 .count) (l .i) (l .next) (l .inv .2) 100 (s .pre .0) (s .pre .1) in
-    λ k h. omega (arith, few k h)
+cast-k : tie.Need-cast-k Inv-loop μ-loop
+cast-k c = search needs
+
+array-read-next : tie.Need-array-read-next Inv-loop μ-loop
+array-read-next c = c .if1 .taken
+
+add-next : tie.Need-add-next Inv-loop μ-loop
+add-next c =
+    let s = c .before .before .before .before .before in
+    let l = c .before .before .before .before .loop in
+    let q = s .args .t2 in
+    let f = getD (q .frames) (l .i) zeroFrame in
+    let few : Counts 132 (l .next) = below (s .args .counts) (q .frames) (q .count) (l .i) (l .next) (l .inv .3) 100 (s .pre .0) (s .pre .1) in
+    omega (arith, few (f .source) (c .if1 .taken))
+
+array-write-next : tie.Need-array-write-next Inv-loop μ-loop
+array-write-next c = c .if1 .taken
 
 add-i : tie.Need-add-i Inv-loop μ-loop
 add-i c = omega arith
@@ -38,17 +56,20 @@ loop-less c = omega arith
 
 loop-again : tie.Need-loop-again Inv-loop μ-loop
 loop-again c =
-    let s = c .before .before .before .before in
-    let l = c .before .before .before .loop in
+    let s = c .before .before .before .before .before in
+    let l = c .before .before .before .before .loop in
     let q = s .args .t2 in
-    (refl, omega arith, one-more (s .args .counts) (q .frames) (q .count) (l .i) (l .next) (l .inv .2) (c .with-source .result) (c .before .before .loop-test .taken) (rw (queue-places q _ (s .good .1 .0)) (s .pre .1)) (c .with-source .ensures))
+    let f = getD (q .frames) (l .i) zeroFrame in
+    let after = c .if1 .next in
+    let met : (length after ≡ 32) × Counted (λ k. count (eqb (f .source) k)) (l .next) after = ⊎-elim (λ w. rw (w .1) (length-set (l .next) _ _ ∙ l .inv .2, counted (l .next) (f .source) (l .inv .2) (w .0 .taken))) (λ w. rw (w .1) (l .inv .2, not-counted (l .next) (f .source) (w .0 .left))) (c .if1 .came) in
+    (refl, omega arith, met .0, one-more (s .args .counts) (q .frames) (q .count) (l .i) (l .next) (l .inv .3) after (c .before .before .before .loop-test .taken) (rw (queue-places q _ (s .good .1 .0)) (s .pre .1)) (met .1))
 
 returns : tie.Need-returns Inv-loop μ-loop
 returns c =
     let s = c .before .before in
     let l = c .before .loop in
     let q = s .args .t2 in
-    all-counted (s .args .counts) (q .frames) (q .count) (l .i) (l .next) (l .inv .2) (c .loop-test .left)
+    all-counted (s .args .counts) (q .frames) (q .count) (l .i) (l .next) (l .inv .3) (c .loop-test .left)
 
 pub with-queue-spec : {M : Type 1} → statement M
 with-queue-spec =
@@ -59,7 +80,10 @@ with-queue-spec =
     loop-holds
     mul-f
     element-copy-out-f
-    with-source-requires
+    cast-k
+    array-read-next
+    add-next
+    array-write-next
     add-i
     loop-less
     loop-again
