@@ -16,7 +16,7 @@ use Rattle.machine.specs.Calls.{Answer, taken, passed, denied, numberOf, offerA
 use Rattle.replay.specs.declared.Asked.{Asked}
 use Rattle.replay.specs.declared.Asked.the-variants.{Unreadable}
 use Rattle.replay.specs.Words.{flat, wordBytes, wordAt, stored}
-use Rattle.replay.specs.Calls.{callBy, readCall, answerBytes}
+use Rattle.replay.specs.Calls.{callBy, readCall, answerBytes, isDenied}
 use Rattle.replay.proofs.Stored.{more, stored-front}
 use Rattle.replay.proofs.Written.{four}
 
@@ -31,6 +31,12 @@ module _ (s : List ℕ) where
   call-named h e f g i = i ∙ rw (e, f, g, eq-eqb (length s) 24 h) refl
 
 -- ---- an answer
+pub offer-flag : {x y : Offer} → x ≡ y → isDenied (offerAnswer y) ≡ isDenied (offerAnswer x)
+offer-flag e = rw e refl
+
+pub advance-flag : {x y : Advance} → x ≡ y → isDenied (advanceAnswer y) ≡ isDenied (advanceAnswer x)
+advance-flag e = rw e refl
+
 pub answer-length : (a : Answer) → length (answerBytes a) ≡ 40
 unfolding answerBytes flat wordBytes
 answer-length taken = refl

@@ -11,5 +11,8 @@ mod Held
 mod Readable
 mod Answered
 mod Listing
-mod Codes
+mod Refusals
+mod Plainly
 pub mod Trip
+mod Reaching
+mod Outcomes

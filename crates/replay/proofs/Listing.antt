@@ -14,7 +14,8 @@ use Rattle.machine.specs.State.{State, view}
 use Rattle.machine.specs.Calls.{Call, Answer, answer, Gives}
 use Rattle.machine.specs.Run.{machine, Run, called}
 use Rattle.machine.proofs.Theorem.{every-run}
-use Rattle.replay.specs.Calls.{answerBytes}
+use Rattle.replay.specs.declared.Stepped.{Stepped}
+use Rattle.replay.specs.Calls.{answerBytes, isDenied}
 use Rattle.replay.specs.List.{callAt, lowest, countOf, eventsOf, answersOf, Ran}
 use Rattle.replay.specs.Steps.{Steps}
 use Rattle.replay.proofs.Answered.{answer-length}
@@ -66,15 +67,20 @@ part a r n e =
     rw (drop-at a r n e, z) (take-all (length r) r (omega arith))
 
 -- ---- a call, and its answer at the front of a buffer
-pub stepped : {p q : Port} {c : Call} {a : Answer} {before after : List ℕ} → Gives p c a q → after ≡ answerBytes a ++ drop 40 before → Steps p c q before after
-stepped {p} {q} {c} {a} {before} g w = record { gives = rw (g .answer) at g; bytes = w ∙ ap (λ (x : Answer). answerBytes x ++ drop 40 before) (g .answer) }
+pub stepped : {p : Port} {s : Stepped} {c : Call} {a : Answer} {before after : List ℕ} → Gives p c a (s .port) → s .refused ≡ isDenied a → after ≡ answerBytes a ++ drop 40 before → Steps p c s before after
+stepped {p} {s} {c} {a} {before} g r w =
+    record {
+      gives = rw (g .answer) at g;
+      refused = r ∙ ap isDenied (g .answer);
+      bytes = w ∙ ap (λ (x : Answer). answerBytes x ++ drop 40 before) (g .answer);
+    }
 
 -- ---- a part of a buffer that holds an answer, and the buffer with it
 pub room : (xs : List ℕ) (i n : ℕ) → i < n → 40 * n ≤ length xs → 40 ≤ length (take (length xs - 40 * i) (drop (40 * i) xs))
 room xs i n h l = rw (length-take, length-drop) (omega arith)
 
-pub same-size : (xs : List ℕ) (at : ℕ) (p : Port) (c : Call) (q : Port) (ys : List ℕ) → 40 ≤ length (take (length xs - at) (drop at xs)) → Steps p c q (take (length xs - at) (drop at xs)) ys → length (take at xs ++ (ys ++ drop (length xs - at) (drop at xs))) ≡ length xs
-same-size xs at p c q ys h s =
+pub same-size : (xs : List ℕ) (at : ℕ) (p : Port) (c : Call) (r : Stepped) (ys : List ℕ) → 40 ≤ length (take (length xs - at) (drop at xs)) → Steps p c r (take (length xs - at) (drop at xs)) ys → length (take at xs ++ (ys ++ drop (length xs - at) (drop at xs))) ≡ length xs
+same-size xs at p c r ys h s =
     let a = answer (view p) c in
     let part = take (length xs - at) (drop at xs) in
     let l : length ys ≡ length part = ap length (s .bytes) ∙ length-append (answerBytes a) (drop 40 part) ∙ rw (answer-length a, length-drop) (omega arith) in
@@ -90,9 +96,9 @@ pub begins : (p : Port) (calls before : List ℕ) (t : Table) → Run t [] p →
 unfolding eventsOf answersOf
 begins p calls before t r = record { run = r; bytes = refl }
 
-pub goes-on : (p₀ : Port) (calls before : List ℕ) (i : ℕ) (p : Port) (now : List ℕ) (t : Table) (q : Port) (ys : List ℕ) → Sofar p₀ calls before i p now t → Steps p (callAt calls i) q (take (length now - 40 * i) (drop (40 * i) now)) ys → Sofar p₀ calls before (i + 1) q (take (40 * i) now ++ (ys ++ drop (length now - 40 * i) (drop (40 * i) now))) t
+pub goes-on : (p₀ : Port) (calls before : List ℕ) (i : ℕ) (p : Port) (now : List ℕ) (t : Table) (r : Stepped) (ys : List ℕ) → Sofar p₀ calls before i p now t → Steps p (callAt calls i) r (take (length now - 40 * i) (drop (40 * i) now)) ys → Sofar p₀ calls before (i + 1) (r .port) (take (40 * i) now ++ (ys ++ drop (length now - 40 * i) (drop (40 * i) now))) t
 unfolding eventsOf answersOf
-goes-on p₀ calls before i p now t q ys f s =
+goes-on p₀ calls before i p now t r ys f s =
     let es = eventsOf t calls i in
     let a = answer (machine t es) (callAt calls i) in
     let same : answer (view p) (callAt calls i) ≡ a = ap (λ (x : State). answer x (callAt calls i)) (every-run t es p (f .run) .faithful .port) in

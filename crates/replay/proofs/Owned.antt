@@ -1,7 +1,7 @@
 -- What owning a port tells of it.
 use mathlib.Core.List.{List, [], _∷_, map}
-use mathlib.Core.Path.{sym, _∙_}
-use lib.ListN.{length-map}
+use mathlib.Core.Path.{_≡_, sym, _∙_}
+use lib.ListN.{length, length-map}
 use mir.Val.{Val}
 use base.Fml.{Fml}
 use denote.Shadow.{shadow}
@@ -14,11 +14,15 @@ use Rattle.machine.specs.declared.Frame.{Frame}
 use Rattle.machine.specs.declared.Wire.{Wire}
 use Rattle.machine.specs.declared.Wire.the-variants.{Free, Sending}
 use Rattle.machine.specs.declared.Last.{Last}
+use Rattle.machine.specs.declared.Queue.{Queue}
+use Rattle.machine.specs.declared.BestQueue.{BestQueue}
 use Rattle.machine.specs.declared.Port.{Port}
 use Rattle.planner.proofs.Row as row
 use Rattle.machine.proofs.Frame as frame
 use Rattle.machine.proofs.Wire as wire
 use Rattle.machine.proofs.Last as last
+use Rattle.machine.proofs.Queue as queue
+use Rattle.machine.proofs.BestQueue as best
 use Rattle.machine.proofs.Port as port
 use Rattle.replay.specs.Fits.{Every, Places, RowFits, FrameFits, LastFits, WireFits, Fits}
 
@@ -31,6 +35,13 @@ port-places p vs e =
       best = sym (length-map (p .best .frames) _) ∙ e .1 .1 .1 .1 .1 .1 .1 .1 .0 .1 .1 .1 .0 .1 .0 .1;
       last = sym (length-map (p .last) _) ∙ e .1 .1 .1 .1 .1 .1 .1 .1 .1 .0 .1 .0 .1;
     }
+
+-- a queue has 32 places, the best-effort queue 16
+pub queue-places : (q : Queue) (vs : List Val) → Is (struct.row queue.the-type) q vs → length (q .frames) ≡ 32
+queue-places q vs e = sym (length-map (q .frames) _) ∙ e .1 .1 .1 .0 .1 .0 .1
+
+pub best-places : (q : BestQueue) (vs : List Val) → Is (struct.row best.the-type) q vs → length (q .frames) ≡ 16
+best-places q vs e = sym (length-map (q .frames) _) ∙ e .1 .1 .1 .0 .1 .0 .1
 
 row-owned : (r : Row) (vs : List Val) → Is (struct.row row.the-type) r vs → RowFits r
 row-owned r vs e = record { payload = e .1 .1 .1 .0 .1; period = e .1 .1 .1 .1 .0 .1; deadline = e .1 .1 .1 .1 .1 .0 .1 }

@@ -1,12 +1,12 @@
 -- A call and its answer as words.
 use Prim.Native.Nat.{ℕ}
-use mathlib.Core.Bool.{cond}
+use mathlib.Core.Bool.{Bool, true, false, cond}
 use mathlib.Core.List.{List, [], _∷_}
 use lib.Dec.{eqb}
 use lib.ListN.{length}
 use Rattle.machine.specs.declared.Ended.{Ended}
 use Rattle.machine.specs.declared.Ended.the-variants.{Reported, Nothing}
-use Rattle.machine.specs.Calls.{Answer, taken, passed, denied}
+use Rattle.machine.specs.Calls.{Call, offer, offerBest, advance, Answer, taken, passed, denied}
 use Rattle.replay.specs.declared.Asked.{Asked}
 use Rattle.replay.specs.declared.Asked.the-variants.{Offer, OfferBest, Advance, Unreadable}
 use Rattle.replay.specs.Words.{flat, wordBytes, wordAt}
@@ -17,6 +17,19 @@ callBy kind x y = cond (eqb kind 0) (Offer x y) (cond (eqb y 0) (cond (eqb kind 
 
 unfoldable pub readCall : List ℕ → Asked
 readCall s = cond (eqb (length s) 24) (callBy (wordAt s 0) (wordAt s 1) (wordAt s 2)) Unreadable
+
+abbrev pub isReadable : Asked → Bool
+isReadable (Offer row payload) = true
+isReadable (OfferBest payload) = true
+isReadable (Advance n) = true
+isReadable Unreadable = false
+
+-- A call that can't be read is refused, so what stands for it is never made.
+abbrev pub callOf : Asked → Call
+callOf (Offer row payload) = offer row payload
+callOf (OfferBest payload) = offerBest payload
+callOf (Advance n) = advance n
+callOf Unreadable = advance 0
 
 -- An answer: 5 words. The refusal's number (its place is 0), or 0; the byte-times passed; the ended frame's source, size and instant taken, or 33, 0, 0 for none.
 abbrev pub endedWords : Ended → List ℕ
@@ -30,3 +43,8 @@ answerWords (denied number place) = number ∷ 0 ∷ 33 ∷ 0 ∷ 0 ∷ []
 
 unfoldable pub answerBytes : Answer → List ℕ
 answerBytes a = flat wordBytes (answerWords a)
+
+abbrev pub isDenied : Answer → Bool
+isDenied taken = false
+isDenied (passed n e) = false
+isDenied (denied number place) = true

@@ -39,6 +39,7 @@ abbrev pub WireFits : Wire → Type 0
 WireFits Free = Unit {0}
 WireFits (Sending f left) = FrameFits f × (left < 2 ^ 32)
 
+-- A credit is −2 ^ 63 to 2 ^ 63 − 1: `mag` of −(n + 1) is n.
 pub record Fits (p : Port) : Type 0 where
   pub places : Places p
   pub idlea : p .table .idlea < 2 ^ 32

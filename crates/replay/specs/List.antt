@@ -1,41 +1,23 @@
 -- A list of calls replayed on the port of a table file: 24 bytes a call, 40 bytes an answer.
-use Prim.Native.Nat.{ℕ, zero, suc, _+_, _*_, _/_, _%_, min}
-use mathlib.Core.Bool.{Bool, true, false, cond}
+use Prim.Native.Nat.{ℕ, zero, suc, _*_, _/_, _%_}
+use mathlib.Core.Bool.{Bool, cond}
 use mathlib.Core.List.{List, [], _∷_, _++_}
 use mathlib.Core.Path.{_≡_}
 use lib.Dec.{leb, eqb}
 use lib.ListN.{length, take, drop}
 use Rattle.planner.specs.declared.Table.{Table}
-use Rattle.planner.specs.Opening.{Outcome, accepted, refused, unless, first, opening}
+use Rattle.planner.specs.Opening.{Outcome, accepted, refused, unless, first}
 use Rattle.tablefile.specs.Reading.{readFile}
 use Rattle.machine.specs.declared.Port.{Port}
-use Rattle.machine.specs.Calls.{Call, offer, offerBest, advance, answer}
+use Rattle.machine.specs.Calls.{Call, answer}
 use Rattle.machine.specs.Run.{Event, event, machine, Run, Demand3}
 use Rattle.replay.specs.declared.Asked.{Asked}
-use Rattle.replay.specs.declared.Asked.the-variants.{Offer, OfferBest, Advance, Unreadable}
-use Rattle.replay.specs.Calls.{readCall, answerBytes}
-
--- An outcome as one number: 0, or the refusal's number and 256 times its place, where a place above 4,294,967,295 counts as that.
-abbrev pub codeOf : Outcome → ℕ
-codeOf accepted = 0
-codeOf (refused number place) = number + 256 * min place 4294967295
+use Rattle.replay.specs.Codes.{codeOf, fileCheck}
+use Rattle.replay.specs.Calls.{readCall, isReadable, callOf, answerBytes}
 
 -- The call of number i.
 unfoldable pub askedAt : List ℕ → ℕ → Asked
 askedAt calls i = readCall (take 24 (drop (24 * i) calls))
-
-abbrev pub isReadable : Asked → Bool
-isReadable (Offer row payload) = true
-isReadable (OfferBest payload) = true
-isReadable (Advance n) = true
-isReadable Unreadable = false
-
--- A list with a call that can't be read is refused, so what stands for such a call is never made.
-abbrev pub callOf : Asked → Call
-callOf (Offer row payload) = offer row payload
-callOf (OfferBest payload) = offerBest payload
-callOf (Advance n) = advance n
-callOf Unreadable = advance 0
 
 abbrev pub callAt : List ℕ → ℕ → Call
 callAt calls i = callOf (askedAt calls i)
@@ -62,7 +44,7 @@ listCheck calls room =
 
 -- Then the file's refusals, then opening's.
 unfoldable pub replayCheck : List ℕ → List ℕ → ℕ → Outcome
-replayCheck file calls room = first (listCheck calls room ∷ readFile file .outcome ∷ opening (readFile file .table) ∷ [])
+replayCheck file calls room = first (listCheck calls room ∷ fileCheck file ∷ [])
 
 -- The first n calls with the machine's answers, the newest first, and the bytes of these answers, the oldest first.
 unfoldable pub eventsOf : Table → List ℕ → ℕ → List Event

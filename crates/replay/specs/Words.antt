@@ -9,7 +9,7 @@ unfoldable pub flat : {A : Type 0} → (A → List ℕ) → List A → List ℕ
 flat f [] = []
 flat f (x ∷ xs) = f x ++ flat f xs
 
--- The 8 bytes of a word, the lowest first: two halves of 4 bytes.
+-- The 8 bytes of a word, the lowest first: two halves of 4 bytes. Every number that is written is below 2 ^ 64.
 abbrev pub halfBytes : ℕ → List ℕ
 halfBytes v = v % 256 ∷ v / 256 % 256 ∷ v / 65536 % 256 ∷ v / 16777216 % 256 ∷ []
 

@@ -5,14 +5,14 @@ ghost use Prim.Native.Nat.{_≤_};
 ghost use lib.ListN.{length, drop};
 ghost use Rattle.machine.specs.Calls.{offerAnswer, advanceAnswer, passed};
 ghost use Rattle.replay.specs.Words.{flat, wordBytes};
-ghost use Rattle.replay.specs.Calls.{answerBytes};
+ghost use Rattle.replay.specs.Calls.{answerBytes, isDenied};
 use crate::words::put_word;
 use machine::Advance;
 use machine::Ended;
 use machine::Offer;
 use port::numbers::number;
 
-fn put_answer(out: &mut [u8], number: u64, passed: u64, source: u64, size: u64, taken: u64)
+pub fn put_answer(out: &mut [u8], number: u64, passed: u64, source: u64, size: u64, taken: u64)
     requires { ⌜ 40 ≤ length (now out) ⌝ }
     ensures { λ _. ⌜ now (out .exit) ≡ flat wordBytes (number ∷ passed ∷ source ∷ size ∷ taken ∷ []) ++ drop 40 (now (out .entry)) ⌝ }
 {
@@ -23,14 +23,21 @@ fn put_answer(out: &mut [u8], number: u64, passed: u64, source: u64, size: u64, 
     put_word(out, 4, taken);
 }
 
-// The answer of an offer at the front of a buffer; the bytes behind it keep their values.
-pub fn write_offer(out: &mut [u8], answer: Offer)
+// The answer of an offer at the front of a buffer; the bytes behind it keep their values. Whether it was refused.
+pub fn write_offer(out: &mut [u8], answer: Offer) -> bool
     requires { ⌜ 40 ≤ length (now out) ⌝ }
+    ensures refused { λ r. ⌜ r ≡ isDenied (offerAnswer answer) ⌝ }
     ensures { λ _. ⌜ now (out .exit) ≡ answerBytes (offerAnswer answer) ++ drop 40 (now (out .entry)) ⌝ }
 {
     match answer {
-        Offer::Taken => put_answer(out, 0, 0, 33, 0, 0),
-        Offer::Refused(d) => put_answer(out, number(d), 0, 33, 0, 0),
+        Offer::Taken => {
+            put_answer(out, 0, 0, 33, 0, 0);
+            false
+        }
+        Offer::Refused(d) => {
+            put_answer(out, number(d), 0, 33, 0, 0);
+            true
+        }
     }
 }
 
@@ -45,13 +52,20 @@ fn write_passed(out: &mut [u8], n: u64, ended: Ended)
     }
 }
 
-// The answer of an advance at the front of a buffer; the bytes behind it keep their values.
-pub fn write_advance(out: &mut [u8], answer: Advance)
+// The answer of an advance at the front of a buffer; the bytes behind it keep their values. Whether it was refused.
+pub fn write_advance(out: &mut [u8], answer: Advance) -> bool
     requires { ⌜ 40 ≤ length (now out) ⌝ }
+    ensures refused { λ r. ⌜ r ≡ isDenied (advanceAnswer answer) ⌝ }
     ensures { λ _. ⌜ now (out .exit) ≡ answerBytes (advanceAnswer answer) ++ drop 40 (now (out .entry)) ⌝ }
 {
     match answer {
-        Advance::Passed(n, ended) => write_passed(out, n, ended),
-        Advance::Refused(d) => put_answer(out, number(d), 0, 33, 0, 0),
+        Advance::Passed(n, ended) => {
+            write_passed(out, n, ended);
+            false
+        }
+        Advance::Refused(d) => {
+            put_answer(out, number(d), 0, 33, 0, 0);
+            true
+        }
     }
 }

@@ -1,6 +1,6 @@
 // A call from bytes.
 ghost use mathlib.Core.Path.{_≡_};
-ghost use Rattle.replay.specs.Calls.{callBy, readCall};
+ghost use Rattle.replay.specs.Calls.{callBy, readCall, isReadable};
 use crate::Asked;
 use crate::words::word;
 
@@ -30,4 +30,15 @@ pub fn read_call(bytes: &[u8]) -> Asked
         return Asked::Unreadable;
     }
     call_by(word(bytes, 0), word(bytes, 1), word(bytes, 2))
+}
+
+pub fn is_readable(a: Asked) -> bool
+    ensures { λ r. ⌜ r ≡ isReadable a ⌝ }
+{
+    match a {
+        Asked::Offer(_, _) => true,
+        Asked::OfferBest(_) => true,
+        Asked::Advance(_) => true,
+        Asked::Unreadable => false,
+    }
 }

@@ -1,9 +1,15 @@
-// Port records, calls and answers as bytes.
+// The boundary to other languages: table files, port records, calls and answers as bytes.
 
 mod answers;
 mod calls;
+mod codes;
+pub mod files;
 pub mod list;
+mod opened;
+mod plain;
 pub mod read;
+pub mod saved;
+mod turn;
 mod words;
 mod write;
 
@@ -19,4 +25,16 @@ pub enum Asked {
     OfferBest(u64),
     Advance(u64),
     Unreadable,
+}
+
+// The fresh port of a table file; its code is 0, or the refusal of the file or of its table.
+pub struct FilePort {
+    pub code: u64,
+    pub port: machine::Port,
+}
+
+// The port after a call, and whether the call was refused.
+pub struct Stepped {
+    pub refused: bool,
+    pub port: machine::Port,
 }

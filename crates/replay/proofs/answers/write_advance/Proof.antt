@@ -1,6 +1,6 @@
 -- `replay::answers::write_advance` meets its contract.
 use denote.Ref.{now}
-use Rattle.replay.proofs.Answered.{advance-passed, advance-refused}
+use Rattle.replay.proofs.Answered.{advance-flag, advance-passed, advance-refused}
 use borrow.Author.Needs.{needs}
 use Rattle.replay.proofs.answers.write_advance.Statement.{statement}
 use Rattle.replay.proofs.answers.write_advance.Tie as tie
@@ -24,13 +24,13 @@ same-length : tie.Need-same-length
 same-length c = search needs
 
 returns : tie.Need-returns
-returns c = advance-passed (now (c .before .before .before .before .before .before .before .before .args .out)) (c .before .before .before .before .before .answer .given .1) (c .before .before .write-passed .ensures)
+returns c = (advance-flag (c .before .before .before .before .before .answer .given .1), advance-passed (now (c .before .before .before .before .before .before .before .before .args .out)) (c .before .before .before .before .before .answer .given .1) (c .before .before .write-passed .ensures))
 
 same-length-2 : tie.Need-same-length-2
 same-length-2 c = search needs
 
 returns-2 : tie.Need-returns-2
-returns-2 c = advance-refused (now (c .before .before .before .before .before .before .before .before .before .args .out)) (c .before .before .before .number .result) (c .before .before .before .before .before .before .answer2 .given .1) (c .before .before .before .number .ensures) (c .before .before .put-answer .ensures)
+returns-2 c = (advance-flag (c .before .before .before .before .before .before .answer2 .given .1), advance-refused (now (c .before .before .before .before .before .before .before .before .before .args .out)) (c .before .before .before .number .result) (c .before .before .before .before .before .before .answer2 .given .1) (c .before .before .before .number .ensures) (c .before .before .put-answer .ensures))
 
 pub write-advance-spec : {M : Type 1} → statement M
 write-advance-spec =

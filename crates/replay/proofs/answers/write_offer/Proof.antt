@@ -1,6 +1,6 @@
 -- `replay::answers::write_offer` meets its contract.
 use denote.Ref.{now}
-use Rattle.replay.proofs.Answered.{offer-taken, offer-refused}
+use Rattle.replay.proofs.Answered.{offer-flag, offer-taken, offer-refused}
 use borrow.Author.Needs.{needs}
 use Rattle.replay.proofs.answers.write_offer.Statement.{statement}
 use Rattle.replay.proofs.answers.write_offer.Tie as tie
@@ -24,13 +24,13 @@ same-length : tie.Need-same-length
 same-length c = search needs
 
 returns : tie.Need-returns
-returns c = offer-taken (now (c .before .before .before .before .before .before .before .args .out)) (c .before .before .before .before .enum-told .given .1) (c .before .before .put-answer .ensures)
+returns c = (offer-flag (c .before .before .before .before .enum-told .given .1), offer-taken (now (c .before .before .before .before .before .before .before .args .out)) (c .before .before .before .before .enum-told .given .1) (c .before .before .put-answer .ensures))
 
 same-length-2 : tie.Need-same-length-2
 same-length-2 c = search needs
 
 returns-2 : tie.Need-returns-2
-returns-2 c = offer-refused (now (c .before .before .before .before .before .before .before .before .before .args .out)) (c .before .before .before .number .result) (c .before .before .before .before .before .before .answer .given .1) (c .before .before .before .number .ensures) (c .before .before .put-answer2 .ensures)
+returns-2 c = (offer-flag (c .before .before .before .before .before .before .answer .given .1), offer-refused (now (c .before .before .before .before .before .before .before .before .before .args .out)) (c .before .before .before .number .result) (c .before .before .before .before .before .before .answer .given .1) (c .before .before .before .number .ensures) (c .before .before .put-answer2 .ensures))
 
 pub write-offer-spec : {M : Type 1} → statement M
 write-offer-spec =

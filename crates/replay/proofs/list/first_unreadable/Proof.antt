@@ -4,7 +4,8 @@ use mathlib.Core.Path.{_≡_, refl, sym, _∙_, ap}
 use native.Mathlib.Omega.{arith}
 use denote.Ref.{now}
 use borrow.Author.Tests.{not-true, not-false}
-use Rattle.replay.specs.List.{askedAt, isReadable, lowest}
+use Rattle.replay.specs.Calls.{isReadable}
+use Rattle.replay.specs.List.{askedAt, lowest}
 use Rattle.replay.proofs.Listing.{none-yet, passes-on, first-at}
 use borrow.Author.Needs.{needs}
 use Rattle.replay.proofs.list.first_unreadable.Statement.{statement}

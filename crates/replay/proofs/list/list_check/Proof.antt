@@ -1,5 +1,5 @@
 -- `replay::list::list_check` meets its contract: each test that fails is the check that decides.
-use Rattle.replay.proofs.Codes.{uneven, not-read, no-room, fits}
+use Rattle.replay.proofs.Outcomes.{uneven, not-read, no-room, fits}
 use borrow.Author.Needs.{needs}
 use Rattle.replay.proofs.list.list_check.Statement.{statement}
 use Rattle.replay.proofs.list.list_check.Tie as tie

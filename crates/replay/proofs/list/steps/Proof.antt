@@ -14,10 +14,10 @@ use Rattle.replay.proofs.list.steps.Statement.{statement}
 use Rattle.replay.proofs.list.steps.Tie as tie
 
 abbrev Inv-loop : tie.InvT-loop
-Inv-loop calls out₀ n p₀ i₀ out p i = (n ≡ countOf calls) × (i ≤ n) × (length out ≡ length out₀) × ((t : Table) → Run t [] p₀ → Sofar p₀ calls out₀ i p out t)
+Inv-loop calls out₀ count p₀ i₀ out p i = (count ≡ countOf calls) × (i ≤ count) × (length out ≡ length out₀) × ((t : Table) → Run t [] p₀ → Sofar p₀ calls out₀ i p out t)
 
 abbrev μ-loop : tie.MeasureT-loop
-μ-loop calls out₀ n p₀ i₀ out p i = n - i
+μ-loop calls out₀ count p₀ i₀ out p i = count - i
 
 loop-holds : tie.Need-loop-holds Inv-loop μ-loop
 loop-holds c = (refl, omega arith, refl, λ t r. begins _ _ _ t r)
@@ -51,15 +51,15 @@ loop-less c = omega arith
 
 loop-again : tie.Need-loop-again Inv-loop μ-loop
 loop-again c =
-    let l = c .before .before .before .before .before .before .loop in
-    let s = c .before .before .before .before .before .before .before .before .before in
+    let l = c .before .before .before .before .before .before .before .loop in
+    let s = c .before .before .before .before .before .before .before .before .before .before in
     let calls = now (s .args .calls) in
-    let asked = c .before .before .before .before .asked-at .ensures in
-    let step = rw asked at (c .before .before .step .ensures) in (
+    let asked = c .before .before .before .before .before .asked-at .ensures in
+    let step = rw asked at (c .before .before .before .step .ensures) in (
       refl,
       omega arith,
-      same-size (l .out) (40 * l .i) (l .p) (callAt calls (l .i)) (c .before .before .step .result) (c .before .before .step .last .1 .1 .0) (room (l .out) (l .i) (countOf calls) (omega arith) (rw (l .inv .2) (s .pre))) step ∙ l .inv .2,
-      λ t r. goes-on (s .args .port) calls (now (s .args .out)) (l .i) (l .p) (l .out) t (c .before .before .step .result) (c .before .before .step .last .1 .1 .0) (l .inv .3 t r) step,
+      same-size (l .out) (40 * l .i) (l .p) (callAt calls (l .i)) (c .before .before .before .step .result) (c .before .before .before .step .last .1 .1 .0) (room (l .out) (l .i) (countOf calls) (omega arith) (rw (l .inv .2) (s .pre))) step ∙ l .inv .2,
+      λ t r. goes-on (s .args .port) calls (now (s .args .out)) (l .i) (l .p) (l .out) t (c .before .before .before .step .result) (c .before .before .before .step .last .1 .1 .0) (l .inv .3 t r) step,
     )
 
 same-length : tie.Need-same-length Inv-loop μ-loop

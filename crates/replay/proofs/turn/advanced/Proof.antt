@@ -1,8 +1,8 @@
--- `replay::list::advanced` meets its contract.
+-- `replay::turn::advanced` meets its contract.
 use Rattle.replay.proofs.Listing.{stepped}
 use borrow.Author.Needs.{needs}
-use Rattle.replay.proofs.list.advanced.Statement.{statement}
-use Rattle.replay.proofs.list.advanced.Tie as tie
+use Rattle.replay.proofs.turn.advanced.Statement.{statement}
+use Rattle.replay.proofs.turn.advanced.Tie as tie
 
 advance-requires : tie.Need-advance-requires
 advance-requires c κs = search needs
@@ -14,7 +14,7 @@ same-length : tie.Need-same-length
 same-length c = search needs
 
 returns : tie.Need-returns
-returns c = stepped (c .before .before .before .before .before .advance .ensures) (c .before .before .before .write-advance .ensures)
+returns c = stepped (c .before .before .before .before .before .advance .ensures) (c .before .before .before .write-advance .ensures .0) (c .before .before .before .write-advance .ensures .1)
 
 pub advanced-spec : {M : Type 1} → statement M
 advanced-spec = tie.close (tie.spec advance-requires write-advance-requires same-length returns)

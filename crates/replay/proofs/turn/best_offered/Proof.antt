@@ -1,8 +1,8 @@
--- `replay::list::best_offered` meets its contract.
+-- `replay::turn::best_offered` meets its contract.
 use Rattle.replay.proofs.Listing.{stepped}
 use borrow.Author.Needs.{needs}
-use Rattle.replay.proofs.list.best_offered.Statement.{statement}
-use Rattle.replay.proofs.list.best_offered.Tie as tie
+use Rattle.replay.proofs.turn.best_offered.Statement.{statement}
+use Rattle.replay.proofs.turn.best_offered.Tie as tie
 
 offer-best-requires : tie.Need-offer-best-requires
 offer-best-requires c κs = search needs
@@ -14,7 +14,7 @@ same-length : tie.Need-same-length
 same-length c = search needs
 
 returns : tie.Need-returns
-returns c = stepped (c .before .before .before .before .before .offer-best .ensures) (c .before .before .before .write-offer .ensures)
+returns c = stepped (c .before .before .before .before .before .offer-best .ensures) (c .before .before .before .write-offer .ensures .0) (c .before .before .before .write-offer .ensures .1)
 
 pub best-offered-spec : {M : Type 1} → statement M
 best-offered-spec =

@@ -9,20 +9,18 @@ use lib.Dec.{eqb, leb}
 use borrow.Author.Tests.{eq-eqb, ne-eqb, leb-true, le-leb, lt-leb}
 use Rattle.planner.specs.declared.Refusal.{Refusal}
 use Rattle.planner.specs.declared.Refusal.the-variants as refusals
-use Rattle.planner.specs.declared.Verdict.the-variants as verdicts
 use Rattle.planner.specs.Opening as tables
-use Rattle.planner.specs.Opening.{Outcome, accepted, refused, unless, first, opening}
+use Rattle.planner.specs.Opening.{Outcome, accepted, refused, unless, first}
 use Rattle.tablefile.specs.declared.Fault.{Fault}
 use Rattle.tablefile.specs.declared.Fault.the-variants as faults
-use Rattle.tablefile.specs.declared.Loaded.{Loaded}
-use Rattle.tablefile.specs.declared.Reading.the-variants as readings
 use Rattle.tablefile.specs.Reading as files
-use Rattle.tablefile.specs.Reading.{readFile, Reads}
-use Rattle.machine.specs.declared.AfterOpening.{AfterOpening}
-use Rattle.machine.specs.Calls.{Opened}
-use Rattle.machine.specs.Run.{opened}
-use Rattle.replay.specs.List.{codeOf, countOf, unreadable, listCheck, replayCheck, Replayed}
-use Rattle.replay.specs.Steps.{Listed}
+use Rattle.tablefile.specs.Reading.{readFile}
+use Rattle.replay.specs.declared.FilePort.{FilePort}
+use Rattle.replay.specs.Codes.{codeOf, fileCheck}
+use Rattle.replay.specs.List.{countOf, unreadable, listCheck, replayCheck, Replayed}
+use Rattle.replay.specs.Steps.{FileOpened, Listed}
+use Rattle.replay.proofs.Refusals.{file-zero}
+use Rattle.replay.proofs.Reaching.{opened-run}
 
 -- numbers are small
 pub fault-small : (f : Fault) → files.numberOf f ≤ 255
@@ -89,27 +87,18 @@ module _ (file s before : List ℕ) where
       by-list accepted q = absurd (h (e ∙ ap codeOf q))
       by-list (refused n p) q = refused-by {n = n} {p = p} (rw q refl) (e ∙ ap codeOf q)
 
-  module _ (fit : listCheck s (length before) ≡ accepted) (l : Loaded) (read : Reads file l) where
-    pub file-refused : {r : ℕ} (f : Fault) (p : ℕ) → l .answer ≡ readings.Refused f p → r ≡ codeOf (refused (files.numberOf f) p) → Replayed file s before before r
+  module _ (fit : listCheck s (length before) ≡ accepted) {o : FilePort} (made : FileOpened file o) where
+    pub file-refused : (o .code ≡ 0 → ⊥) → Replayed file s before before (o .code)
     unfolding replayCheck
-    file-refused f p q e =
-        let o : readFile file .outcome ≡ refused (files.numberOf f) p = sym (read .answer) ∙ ap files.outcomeOf q in
-        refused-by (rw (fit, o) refl) e
+    file-refused h = by-file (fileCheck file) refl
+      where
+        by-file : (x : Outcome) → fileCheck file ≡ x → Replayed file s before before (o .code)
+        by-file accepted q = absurd (h (made .code ∙ ap codeOf q))
+        by-file (refused n p) q = refused-by {n = n} {p = p} (rw (fit, q) refl) (made .code ∙ ap codeOf q)
 
-    module _ (whole : l .answer ≡ readings.Whole) (g : AfterOpening) (made : Opened (l .table) g) where
-      is-read : readFile file .outcome ≡ accepted
-      is-read = sym (read .answer) ∙ ap files.outcomeOf whole
-
-      pub table-refused : {r : ℕ} (w : Refusal) → g .verdict ≡ verdicts.Refused w → r ≡ codeOf (refused (tables.numberOf w) (tables.placeOf w)) → Replayed file s before before r
-      unfolding replayCheck
-      table-refused w q e =
-          let o : opening (readFile file .table) ≡ refused (tables.numberOf w) (tables.placeOf w) = rw (← read .table) (sym (made .verdict) ∙ ap tables.outcomeOf q) in
-          refused-by (rw (fit, is-read, o) refl) e
-
-      pub all-answered : {after : List ℕ} → g .verdict ≡ verdicts.Accepted → Listed (g .port) s before after → Replayed file s before after 0
-      unfolding replayCheck
-      all-answered {after} q listed =
-          let ok : opening (l .table) ≡ accepted = sym (made .verdict) ∙ ap tables.outcomeOf q in
-          let all : replayCheck file s (length before) ≡ accepted = rw (fit, is-read, ← read .table, ok) refl in
-          let done = listed (l .table) (opened made ok) in
-          record { code = rw all refl; buffer = rw (all, ← read .table) (done .1); ran = λ _. rw (← read .table) (done .0) }
+    pub all-answered : {after : List ℕ} → o .code ≡ 0 → Listed (o .port) s before after → Replayed file s before after (o .code)
+    unfolding replayCheck
+    all-answered {after} z listed =
+        let all : replayCheck file s (length before) ≡ accepted = rw (fit, file-zero file made z) refl in
+        let done = listed (readFile file .table) (opened-run file made z) in
+        record { code = z ∙ rw all refl; buffer = rw all (done .1); ran = λ _. done .0 }

@@ -1,8 +1,8 @@
--- `replay::list::offered` meets its contract.
+-- `replay::turn::offered` meets its contract.
 use Rattle.replay.proofs.Listing.{stepped}
 use borrow.Author.Needs.{needs}
-use Rattle.replay.proofs.list.offered.Statement.{statement}
-use Rattle.replay.proofs.list.offered.Tie as tie
+use Rattle.replay.proofs.turn.offered.Statement.{statement}
+use Rattle.replay.proofs.turn.offered.Tie as tie
 
 offer-requires : tie.Need-offer-requires
 offer-requires c κs = search needs
@@ -14,7 +14,7 @@ same-length : tie.Need-same-length
 same-length c = search needs
 
 returns : tie.Need-returns
-returns c = stepped (c .before .before .before .before .before .offer .ensures) (c .before .before .before .write-offer .ensures)
+returns c = stepped (c .before .before .before .before .before .offer .ensures) (c .before .before .before .write-offer .ensures .0) (c .before .before .before .write-offer .ensures .1)
 
 pub offered-spec : {M : Type 1} → statement M
 offered-spec = tie.close (tie.spec offer-requires write-offer-requires same-length returns)
