@@ -1,0 +1,140 @@
+//! What the library's five calls must return and leave in their buffers, by
+//! the simulator.
+
+use ithumeco::{
+    put_words, words, Answer, Call, Record, ANSWER_SIZE, BEST_EFFORT, BOUNDS_SIZE, CALL_SIZE,
+    RECORD_SIZE,
+};
+use simulator::{Frame, Mark, Port, Refusal, Table};
+
+use crate::readable::port_of;
+
+pub type Outcome = Result<(), Refusal>;
+
+fn refuse(number: u8, place: usize) -> Outcome {
+    Err(Refusal {
+        number,
+        place: place as u64,
+    })
+}
+
+/// 103, a buffer with too little room.
+fn room(buffer: &[u8], size: usize) -> Outcome {
+    if buffer.len() < size {
+        return refuse(103, 0);
+    }
+    Ok(())
+}
+
+/// The table of a file that reading and opening let pass.
+pub fn opened(file: &[u8]) -> Result<Table, Refusal> {
+    let table = simulator::read(file)?;
+    simulator::open(&table)?;
+    Ok(table)
+}
+
+pub fn rewrite(file: &[u8], copy: &mut [u8]) -> Outcome {
+    let table = simulator::read(file)?;
+    simulator::write(&table, copy)?;
+    Ok(())
+}
+
+pub fn bounds(file: &[u8], out: &mut [u8]) -> Outcome {
+    room(out, BOUNDS_SIZE)?;
+    let table = simulator::read(file)?;
+    put_words(&simulator::bounds(&table)?, out);
+    Ok(())
+}
+
+pub fn open(file: &[u8], record: &mut [u8]) -> Outcome {
+    room(record, RECORD_SIZE)?;
+    let port = Port::fresh(opened(file)?);
+    record[..RECORD_SIZE].copy_from_slice(&Record::from(&port).bytes());
+    Ok(())
+}
+
+pub fn replay(file: &[u8], calls: &[u8], answers: &mut [u8]) -> Outcome {
+    let calls = calls.chunks_exact(CALL_SIZE);
+    if !calls.remainder().is_empty() {
+        return refuse(101, 0);
+    }
+    let calls: Vec<Option<Call>> = calls.map(call_of).collect();
+    if let Some(place) = calls.iter().position(Option::is_none) {
+        return refuse(102, place);
+    }
+    room(answers, calls.len() * ANSWER_SIZE)?;
+    let mut port = Port::fresh(opened(file)?);
+    for (call, place) in calls.iter().flatten().zip(answers.chunks_mut(ANSWER_SIZE)) {
+        place.copy_from_slice(&answer(&mut port, *call).bytes());
+    }
+    Ok(())
+}
+
+pub fn call(saved: &mut [u8], call: &[u8], out: &mut [u8]) -> Outcome {
+    let Some(call) = call_of(call) else {
+        return refuse(102, 0);
+    };
+    room(out, ANSWER_SIZE)?;
+    let said = answer_on(saved, call);
+    out[..ANSWER_SIZE].copy_from_slice(&said.bytes());
+    Ok(())
+}
+
+/// One call on bytes that may be a record.
+fn answer_on(saved: &mut [u8], call: Call) -> Answer {
+    let broken = Answer::refused(18);
+    let Ok(bytes) = <&[u8; RECORD_SIZE]>::try_from(&*saved) else {
+        return broken;
+    };
+    let before = Record::from_bytes(bytes);
+    let Some(mut port) = port_of(&before) else {
+        return broken;
+    };
+    let said = answer(&mut port, call);
+    if said.number == 0 {
+        let mut after = Record::from(&port);
+        // The table stands whole: its places not in use are kept.
+        let in_use = port.table.rows.len();
+        after.rows[in_use..].copy_from_slice(&before.rows[in_use..]);
+        saved.copy_from_slice(&after.bytes());
+    }
+    said
+}
+
+/// The call that bytes name.
+pub fn call_of(bytes: &[u8]) -> Option<Call> {
+    let words: Vec<u64> = words(bytes).collect();
+    match words[..] {
+        _ if bytes.len() != CALL_SIZE => None,
+        [0, row, payload] => Some(Call::Offer(row, payload)),
+        [1, payload, 0] => Some(Call::OfferBest(payload)),
+        [2, n, 0] => Some(Call::Advance(n)),
+        _ => None,
+    }
+}
+
+/// The simulator's answer to a call.
+pub fn answer(port: &mut Port, call: Call) -> Answer {
+    let said = match call {
+        Call::Offer(row, payload) => port.offer(row, payload).map(|()| Answer::TAKEN),
+        Call::OfferBest(payload) => port.offer_best(payload).map(|()| Answer::TAKEN),
+        Call::Advance(n) => port.advance(n).map(|advance| match advance.ended {
+            Some(frame) => reported(advance.passed, frame),
+            None => Answer::passed(advance.passed),
+        }),
+    };
+    said.unwrap_or_else(|refusal| Answer::refused(refusal.number.into()))
+}
+
+fn reported(passed: u64, frame: Frame) -> Answer {
+    Answer {
+        number: 0,
+        passed,
+        source: match frame.mark {
+            Mark::Row(row) => row as u64,
+            Mark::BestEffort => BEST_EFFORT,
+        },
+        size: frame.size,
+        taken: frame.instant,
+    }
+}

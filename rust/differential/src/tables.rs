@@ -1,0 +1,239 @@
+//! Tables: accepted ones of many kinds, and tables at the edges of the rules.
+
+use simulator::table::{D, MOST_IDLE_TOGETHER, MOST_ROWS};
+use simulator::{bounds, wire_size, Class, Row, Table};
+
+use crate::random::Random;
+
+/// The longest period.
+const LONGEST: u64 = 1_000_000_000;
+
+/// The largest payload.
+const LARGEST: u64 = 1500;
+
+/// A table of any kind that opening accepts.
+pub fn accepted(random: &mut Random) -> Table {
+    within(random, LONGEST)
+}
+
+/// An accepted table whose periods are at most `longest`.
+pub fn within(random: &mut Random, longest: u64) -> Table {
+    loop {
+        let table = proposed(random);
+        if bounds(&table).is_ok() && table.rows.iter().all(|row| row.period <= longest) {
+            return table;
+        }
+    }
+}
+
+/// An accepted table in which most rows are of one class, of one size and
+/// with a high slope: the part of its bounds that no traffic reaches is small.
+pub fn tight(random: &mut Random, class: Class) -> Table {
+    loop {
+        let others = random.between(0, 4);
+        let most = random.between(20, 28);
+        let idle = random.between(500_000, 700_000);
+        let slack = if others == 0 { 0 } else { 750_000 - idle };
+        let (counts, idles) = match class {
+            Class::A => ((most, others), (idle, slack)),
+            Class::B => ((others, most), (slack, idle)),
+        };
+        let size = payload(random, LARGEST);
+        let mut table = unfitted(random, counts, idles);
+        for row in table.rows.iter_mut().filter(|row| row.class == class) {
+            row.payload = size;
+        }
+        fit(random, &mut table, false);
+        if bounds(&table).is_ok() {
+            return table;
+        }
+    }
+}
+
+fn proposed(random: &mut Random) -> Table {
+    let counts = counts(random);
+    let idles = slopes(random, counts);
+    let mut table = unfitted(random, counts, idles);
+    if random.one_in(4) {
+        let same = payload(random, LARGEST);
+        table.rows.iter_mut().for_each(|row| row.payload = same);
+    }
+    fit(random, &mut table, true);
+    table
+}
+
+/// How many rows of A and of B.
+fn counts(random: &mut Random) -> (u64, u64) {
+    let some = random.between(1, 31);
+    match random.below(10) {
+        0 => (1, 0),
+        1 => (0, 1),
+        2 => (32, 0),
+        3 => (0, 32),
+        4 => (some, 0),
+        5 => (0, some),
+        6 => (some, 32 - some),
+        _ => (random.between(1, 6), random.between(1, 6)),
+    }
+}
+
+/// The slopes of A and of B.
+fn slopes(random: &mut Random, counts: (u64, u64)) -> (u64, u64) {
+    let together = match random.below(4) {
+        0 => MOST_IDLE_TOGETHER,
+        1 => random.between(100, 50_000),
+        _ => random.between(50_000, MOST_IDLE_TOGETHER),
+    };
+    match counts {
+        (_, 0) => (together, 0),
+        (0, _) => (0, together),
+        _ => {
+            let a = random.between(1, together - 1);
+            (a, together - a)
+        }
+    }
+}
+
+fn payload(random: &mut Random, most: u64) -> u64 {
+    match random.below(4) {
+        0 => most,
+        1 => random.between(0, most.min(43)),
+        _ => random.between(0, most),
+    }
+}
+
+/// Rows in any order with payloads, and periods and deadlines of no meaning.
+fn unfitted(random: &mut Random, counts: (u64, u64), idles: (u64, u64)) -> Table {
+    let mut rows = Vec::new();
+    for (class, count) in [(Class::A, counts.0), (Class::B, counts.1)] {
+        for _ in 0..count {
+            rows.push(Row {
+                class,
+                payload: payload(random, LARGEST),
+                period: LONGEST,
+                deadline: LONGEST,
+            });
+        }
+    }
+    random.shuffle(&mut rows);
+    Table {
+        idle_a: idles.0,
+        idle_b: idles.1,
+        best_payload: payload(random, LARGEST),
+        rows,
+    }
+}
+
+/// Periods by parts of the slope, and deadlines from the bound on.
+fn fit(random: &mut Random, table: &mut Table, stretched: bool) {
+    let figures = [table.figures(Class::A), table.figures(Class::B)];
+    let weights: Vec<u64> = table.rows.iter().map(|_| random.between(1, 4)).collect();
+    let total = |class| -> u64 {
+        let rows = table.rows.iter().zip(&weights);
+        rows.filter(|(row, _)| row.class == class)
+            .map(|(_, weight)| weight)
+            .sum()
+    };
+    let totals = [total(Class::A), total(Class::B)];
+    for (row, weight) in table.rows.iter_mut().zip(weights) {
+        let class = row.class as usize;
+        let part = (figures[class].idle * weight / totals[class]).max(1);
+        let bound = figures[class].bound(wire_size(row.payload));
+        let least = (D * row.size()).div_ceil(part).max(bound);
+        row.period = match random.below(16) {
+            0 if stretched => LONGEST.max(least),
+            1..=4 if stretched => least + random.between(0, least),
+            _ => least,
+        };
+        row.deadline = match random.below(4) {
+            0 => bound,
+            1 => row.period,
+            _ => random.between(bound, row.period),
+        };
+    }
+}
+
+/// A table at an edge of the rules, on either side of it.
+pub fn edge(random: &mut Random) -> Table {
+    let mut table = accepted(random);
+    for _ in 0..random.between(1, 2) {
+        change(random, &mut table);
+    }
+    table
+}
+
+/// Moves one value to an edge.
+fn change(random: &mut Random, table: &mut Table) {
+    if table.rows.is_empty() {
+        return;
+    }
+    let place = random.below(table.rows.len());
+    let class = table.rows[place].class;
+    let off = random.between(0, 1);
+    match random.below(12) {
+        0 => late(table, place, off),
+        1 => {
+            let shares = shares(table, class);
+            *idle(table, class) = shares.saturating_sub(off);
+        }
+        2 => *idle(table, class) = 0,
+        3 => table.rows.retain(|row| row.class != class),
+        4 => {
+            let other = MOST_IDLE_TOGETHER.saturating_sub(table.idle(class));
+            *idle(table, opposite(class)) = other + off;
+        }
+        5 => table.rows[place].class = opposite(class),
+        6 => {
+            let edges = [83, 84, 15_625, 31_250, LONGEST, LONGEST + 1];
+            table.rows[place].period = random.pick(&edges);
+        }
+        7 => table.rows[place].payload = random.pick(&[0, 42, 43, 1500, 1501, 65_535]),
+        8 => {
+            let period = table.rows[place].period;
+            table.rows[place].deadline = random.pick(&[0, 1, period, period + 1]);
+        }
+        9 => *idle(table, class) = random.pick(&[1, 750_000, 750_001, u64::from(u32::MAX)]),
+        10 => table.best_payload = random.pick(&[0, 1500, 1501, 65_535]),
+        _ => {
+            let row = table.rows[place];
+            table.rows.resize(random.pick(&[0, 1, 32, 33, 255]), row);
+        }
+    }
+}
+
+/// Makes a row's deadline its bound, or less by `off`.
+pub fn late(table: &mut Table, place: usize, off: u64) {
+    if let Some(bound) = bounds(table).ok().map(|bounds| bounds[place]) {
+        table.rows[place].deadline = bound - off;
+    }
+}
+
+/// An accepted table of 32 rows.
+pub fn full(random: &mut Random) -> Table {
+    loop {
+        let table = accepted(random);
+        if table.rows.len() == MOST_ROWS {
+            return table;
+        }
+    }
+}
+
+/// The sum of a class's shares, where its periods are not 0.
+fn shares(table: &Table, class: Class) -> u64 {
+    let of_class = table.rows.iter().filter(|row| row.class == class);
+    of_class.map(Row::share).sum()
+}
+
+fn idle(table: &mut Table, class: Class) -> &mut u64 {
+    match class {
+        Class::A => &mut table.idle_a,
+        Class::B => &mut table.idle_b,
+    }
+}
+
+fn opposite(class: Class) -> Class {
+    match class {
+        Class::A => Class::B,
+        Class::B => Class::A,
+    }
+}

@@ -1,0 +1,199 @@
+//! Runs the library and the simulator on equal buffers, holds one to the other
+//! and counts.
+
+use differential::driver::Driver;
+use differential::expected::{self, call_of, Outcome};
+use differential::guarded::Guarded;
+use differential::random::Random;
+use ithumeco::{words, Answer, CALL_SIZE};
+
+use crate::tally::Counts;
+
+/// A call of the library that fills a buffer from a table file.
+type FileCall = fn(&[u8], &mut [u8]) -> Outcome;
+
+pub struct Bench {
+    factor: usize,
+    random: Random,
+    pub cases: u64,
+    pub numbers: Counts,
+}
+
+impl Bench {
+    pub fn new(factor: usize) -> Bench {
+        Bench {
+            factor,
+            random: Random::new(0),
+            cases: 0,
+            numbers: [0; 256],
+        }
+    }
+
+    /// How many cases to run, where a short run has `count`.
+    pub fn times(&self, count: usize) -> usize {
+        count * self.factor
+    }
+
+    /// A guarded copy of some bytes, at any alignment.
+    fn lend(&mut self, content: &[u8]) -> Guarded {
+        Guarded::new(content, self.random.below(8))
+    }
+
+    /// A guarded buffer of random bytes.
+    fn buffer(&mut self, room: usize) -> Guarded {
+        let bytes = self.random.bytes(room);
+        self.lend(&bytes)
+    }
+
+    /// Counts a number that the product has said, 0 where it did not refuse.
+    pub fn saw(&mut self, number: usize) {
+        self.numbers[number] += 1;
+    }
+
+    fn count(&mut self, outcome: Outcome) {
+        self.cases += 1;
+        self.saw(outcome.map_or_else(|refusal| refusal.number.into(), |()| 0));
+    }
+
+    pub fn rewrite(&mut self, file: &[u8], room: usize) {
+        let _ = self.fill("rewrite", ithumeco::rewrite, expected::rewrite, file, room);
+    }
+
+    pub fn bounds(&mut self, file: &[u8], room: usize) {
+        let _ = self.fill("bounds", ithumeco::bounds, expected::bounds, file, room);
+    }
+
+    pub fn open(&mut self, file: &[u8], room: usize) -> Outcome {
+        self.fill("open", ithumeco::open, expected::open, file, room)
+    }
+
+    fn fill(
+        &mut self,
+        name: &str,
+        library: FileCall,
+        simulator: FileCall,
+        file: &[u8],
+        room: usize,
+    ) -> Outcome {
+        let given = self.lend(file);
+        let mut out = self.buffer(room);
+        let mut meant = out.get().to_vec();
+        let outcome = library(given.get(), out.get_mut());
+        let context = || format!("{name}, room {room}, file {file:02X?}");
+        hold_outcome(outcome, simulator(file, &mut meant), &context);
+        hold("buffer", &out, &meant, &context);
+        hold("file", &given, file, &context);
+        self.count(outcome);
+        outcome
+    }
+
+    /// A list against what the simulator makes of it.
+    pub fn replay(&mut self, file: &[u8], calls: &[u8], room: usize) {
+        let before = self.random.bytes(room);
+        let mut meant = before.clone();
+        let outcome = expected::replay(file, calls, &mut meant);
+        self.list(file, calls, &before, outcome, &meant);
+    }
+
+    /// A list that the simulator has played, with some bytes of room more than
+    /// the answers need. Gives the library's answers.
+    pub fn replay_played(&mut self, file: &[u8], driver: &Driver, more: usize) -> Vec<u8> {
+        let written = driver.answers.len();
+        let before = self.random.bytes(written + more);
+        let meant = [&driver.answers, &before[written..]].concat();
+        let answers = self.list(file, &driver.calls, &before, Ok(()), &meant);
+        let answers = answers.get()[..written].to_vec();
+        for answer in Answer::list(&answers) {
+            self.saw(answer.number as usize);
+        }
+        answers
+    }
+
+    fn list(
+        &mut self,
+        file: &[u8],
+        calls: &[u8],
+        before: &[u8],
+        meant_outcome: Outcome,
+        meant: &[u8],
+    ) -> Guarded {
+        let given_file = self.lend(file);
+        let given_calls = self.lend(calls);
+        let mut answers = self.lend(before);
+        let outcome = ithumeco::replay(given_file.get(), given_calls.get(), answers.get_mut());
+        let context = || {
+            let (size, room) = (calls.len(), before.len());
+            let wrong = first_wrong(calls, answers.get(), meant);
+            format!("replay, calls of {size} bytes, room {room}, file {file:02X?}{wrong}")
+        };
+        hold_outcome(outcome, meant_outcome, &context);
+        hold("answers", &answers, meant, &context);
+        hold("file", &given_file, file, &context);
+        hold("calls", &given_calls, calls, &context);
+        self.count(outcome);
+        answers
+    }
+
+    /// One call on a record's bytes, which are then those that it leaves. Gives
+    /// the answer if the call was made.
+    pub fn call(&mut self, record: &mut [u8], call: &[u8], room: usize) -> Option<Answer> {
+        let mut saved = self.lend(record);
+        let given = self.lend(call);
+        let mut out = self.buffer(room);
+        let mut meant_record = record.to_vec();
+        let mut meant = out.get().to_vec();
+        let outcome = ithumeco::call(saved.get_mut(), given.get(), out.get_mut());
+        let meant_outcome = expected::call(&mut meant_record, call, &mut meant);
+        let context = || {
+            let words = shown(record);
+            format!("call {call:02X?}, room {room}, record with {words}")
+        };
+        hold_outcome(outcome, meant_outcome, &context);
+        hold("answer", &out, &meant, &context);
+        hold("record", &saved, &meant_record, &context);
+        hold("call", &given, call, &context);
+        self.count(outcome);
+        record.copy_from_slice(saved.get());
+        outcome.ok()?;
+        let answer = Answer::list(out.get()).next()?;
+        self.saw(answer.number as usize);
+        Some(answer)
+    }
+}
+
+fn hold_outcome(said: Outcome, meant: Outcome, context: &dyn Fn() -> String) {
+    assert!(said == meant, "{said:?}, not {meant:?}: {}", context());
+}
+
+/// The first wrong answer of a list.
+fn first_wrong(calls: &[u8], said: &[u8], meant: &[u8]) -> String {
+    let mut both = Answer::list(said).zip(Answer::list(meant));
+    let mut calls = calls.chunks(CALL_SIZE).map(call_of).enumerate();
+    let wrong = calls.find_map(|(number, call)| {
+        let (said, meant) = both.next()?;
+        (said != meant).then(|| format!(", call {number}, {call:?}: {said:?}, not {meant:?}"))
+    });
+    wrong.unwrap_or_default()
+}
+
+/// A record's length and its words other than 0.
+fn shown(record: &[u8]) -> String {
+    let mut text = format!("{} bytes", record.len());
+    for (place, word) in words(record).enumerate().filter(|(_, word)| *word != 0) {
+        text += &format!(", {word} at {place}");
+    }
+    text
+}
+
+/// Holds a buffer and its guards to the bytes that it must have.
+fn hold(name: &str, buffer: &Guarded, meant: &[u8], context: &dyn Fn() -> String) {
+    let said = buffer.get();
+    if let Some(at) = (0..meant.len()).find(|&at| said[at] != meant[at]) {
+        let (found, right) = (said[at], meant[at]);
+        panic!(
+            "byte {at} of the {name} is {found}, not {right}: {}",
+            context()
+        );
+    }
+    assert!(buffer.stands(), "a write outside the {name}: {}", context());
+}

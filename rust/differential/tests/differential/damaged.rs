@@ -1,0 +1,280 @@
+//! Damaged records: the clauses of "broken" alone and in pairs, words of any
+//! value at every place, wrong lengths, and junk in the places that belong to
+//! no part.
+
+use std::collections::BTreeSet;
+
+use differential::driver::Driver;
+use differential::random::Random;
+use differential::readable::port_of;
+use differential::tables;
+use differential::traffic::any_call;
+use ithumeco::{Call, FrameWords, LastWords, Record, RowWords, ANSWER_SIZE, RECORD_SIZE};
+use simulator::port::{CLAUSES, LAST_CLOCK};
+use simulator::table::accept;
+use simulator::{broken, Class, Port};
+
+use crate::bench::Bench;
+use crate::damages::DAMAGES;
+
+/// How much time passes on a port before its record is damaged.
+const AGE: u64 = 300_000;
+
+/// The size of a word in bytes.
+const WORD: usize = 8;
+
+pub fn run(bench: &mut Bench) {
+    let mut random = Random::new(5);
+    let mut seen = BTreeSet::new();
+    for _ in 0..bench.times(2) {
+        for port in sound_ports(&mut random) {
+            assert_eq!(broken(&port), None);
+            clauses(bench, &mut random, &port, &mut seen);
+            every_word(bench, &mut random, &port);
+            some_words(bench, &mut random, &port);
+            lengths(bench, &port);
+            junk(bench, &mut random, &port);
+        }
+    }
+    for clause in CLAUSES {
+        assert!(seen.contains(clause), "no record for: {clause}");
+    }
+}
+
+/// Ports of one table: busy with a row's frame on the wire, busy with a
+/// best-effort frame on the wire, and idle.
+fn sound_ports(random: &mut Random) -> [Port; 3] {
+    let idle = idle_port(random);
+    let mut by_row = offered(idle.clone());
+    by_row.advance(1).expect("a sound port");
+    let mut by_best = idle.clone();
+    by_best.offer_best(0).expect("a sound port");
+    by_best.advance(1).expect("a sound port");
+    [by_row, offered(by_best), idle]
+}
+
+/// A port with some rows of each class and some places not in use. Each row
+/// has been offered to and all frames have ended.
+fn idle_port(random: &mut Random) -> Port {
+    loop {
+        let table = tables::within(random, AGE);
+        let of = |class| table.rows.iter().filter(|row| row.class == class).count();
+        if of(Class::A) < 3 || of(Class::B) < 3 || table.rows.len() > 30 {
+            continue;
+        }
+        let mut driver = Driver::new(table);
+        for row in 0..driver.port.table.rows.len() {
+            driver.offer(row);
+        }
+        while driver.port.clock < AGE {
+            driver.make(Call::Advance(65_535));
+        }
+        return driver.port;
+    }
+}
+
+/// Best effort and all rows but the first of each class offered.
+fn offered(mut port: Port) -> Port {
+    for _ in 0..5 {
+        let payload = port.table.best_payload;
+        port.offer_best(payload).expect("a sound port");
+    }
+    for class in [Class::A, Class::B] {
+        let rows = port.table.rows.clone();
+        let of_class = (0..rows.len()).filter(|&row| rows[row].class == class);
+        for row in of_class.skip(1) {
+            let payload = rows[row].payload;
+            port.offer(row as u64, payload).expect("a sound port");
+        }
+    }
+    port
+}
+
+/// Makes one call on a record's bytes.
+fn call(bench: &mut Bench, record: &[u8], call: Call) {
+    bench.call(&mut record.to_vec(), &call.bytes(), ANSWER_SIZE);
+}
+
+/// Makes each kind of call on a record's bytes.
+fn every_call(bench: &mut Bench, port: &Port, record: &[u8]) {
+    for row in 0..port.table.rows.len() as u64 {
+        call(bench, record, Call::Offer(row, 0));
+    }
+    call(bench, record, Call::OfferBest(0));
+    for n in [0, 1, 5000] {
+        call(bench, record, Call::Advance(n));
+    }
+}
+
+/// Each damage alone, and each two.
+fn clauses(bench: &mut Bench, random: &mut Random, port: &Port, seen: &mut BTreeSet<&str>) {
+    let plan = accept(&port.table).expect("a sound port");
+    let sound = Record::from(port);
+    let damaged: Vec<[u8; RECORD_SIZE]> = DAMAGES
+        .iter()
+        .map(|damage| {
+            let mut record = sound.clone();
+            damage(&mut record, &plan);
+            seen.extend(port_of(&record).and_then(|port| broken(&port)));
+            record.bytes()
+        })
+        .collect();
+    let sound = sound.bytes();
+    for (place, one) in damaged.iter().enumerate() {
+        every_call(bench, port, one);
+        for other in &damaged[place + 1..] {
+            let pair = with_changes(one, &sound, other);
+            call(bench, &pair, any_call(random, &port.table));
+        }
+    }
+}
+
+/// The first record with the words that differ between the two others.
+fn with_changes(
+    first: &[u8; RECORD_SIZE],
+    from: &[u8; RECORD_SIZE],
+    to: &[u8; RECORD_SIZE],
+) -> [u8; RECORD_SIZE] {
+    let mut record = *first;
+    for at in (0..RECORD_SIZE).step_by(WORD) {
+        if from[at..at + WORD] != to[at..at + WORD] {
+            record[at..at + WORD].copy_from_slice(&to[at..at + WORD]);
+        }
+    }
+    record
+}
+
+/// Words at the edges of fields and rules.
+const EDGES: [u64; 22] = [
+    0,
+    1,
+    2,
+    5,
+    7,
+    16,
+    17,
+    32,
+    33,
+    83,
+    84,
+    200,
+    1500,
+    65_535,
+    65_536,
+    u32::MAX as u64,
+    1 << 32,
+    LAST_CLOCK,
+    LAST_CLOCK + 1,
+    i64::MAX as u64,
+    1 << 63,
+    u64::MAX,
+];
+
+fn put(record: &mut [u8], at: usize, word: u64) {
+    record[at..at + WORD].copy_from_slice(&word.to_le_bytes());
+}
+
+fn get(record: &[u8], at: usize) -> u64 {
+    ithumeco::words(&record[at..]).next().expect("a word")
+}
+
+/// Every word at every edge.
+fn every_word(bench: &mut Bench, random: &mut Random, port: &Port) {
+    let sound = Record::from(port).bytes();
+    for at in (0..RECORD_SIZE).step_by(WORD) {
+        let old = get(&sound, at);
+        for word in EDGES
+            .into_iter()
+            .chain([old.wrapping_add(1), old.wrapping_sub(1)])
+        {
+            let mut record = sound;
+            put(&mut record, at, word);
+            call(bench, &record, any_call(random, &port.table));
+        }
+    }
+}
+
+/// A few words of any value, or with the value of another.
+fn some_words(bench: &mut Bench, random: &mut Random, port: &Port) {
+    let sound = Record::from(port).bytes();
+    let place = |random: &mut Random| random.below(RECORD_SIZE / WORD) * WORD;
+    for _ in 0..2000 {
+        let mut record = sound;
+        for _ in 0..random.between(1, 3) {
+            let at = place(random);
+            let old = get(&record, at);
+            let word = match random.below(5) {
+                0 => random.word(),
+                1 => random.word() >> random.between(32, 63),
+                2 => get(&record, place(random)),
+                3 => old ^ 1 << random.below(64),
+                _ => old.wrapping_add(random.between(0, 20)).wrapping_sub(10),
+            };
+            put(&mut record, at, word);
+        }
+        call(bench, &record, any_call(random, &port.table));
+    }
+}
+
+/// Records that are too short or too long.
+fn lengths(bench: &mut Bench, port: &Port) {
+    let twice = Record::from(port).bytes().repeat(2);
+    let around = RECORD_SIZE - 9..RECORD_SIZE + 10;
+    for len in (0..10).chain(around).chain([RECORD_SIZE * 2]) {
+        call(bench, &twice[..len], Call::Advance(1));
+    }
+    let mut with_zeros = twice;
+    with_zeros[RECORD_SIZE..].fill(0);
+    call(bench, &with_zeros, Call::Advance(1));
+}
+
+/// Junk in the places that belong to no part, as far as it fits the fields.
+fn junk(bench: &mut Bench, random: &mut Random, port: &Port) {
+    for _ in 0..20 {
+        let mut record = Record::from(port);
+        let unused = record.count as usize;
+        for row in &mut record.rows[unused..] {
+            *row = RowWords {
+                class: random.between(0, 1),
+                payload: random.word() >> 48,
+                period: random.word() >> 32,
+                deadline: random.word() >> 32,
+            };
+        }
+        let waiting_a = record.queue_a.count as usize;
+        let waiting_b = record.queue_b.count as usize;
+        let waiting_best = record.queue_best.count as usize;
+        junk_frames(random, &mut record.queue_a.frames[waiting_a..]);
+        junk_frames(random, &mut record.queue_b.frames[waiting_b..]);
+        junk_frames(random, &mut record.queue_best.frames[waiting_best..]);
+        for last in &mut record.last[unused..] {
+            *last = LastWords {
+                known: random.between(0, 1),
+                taken: random.word(),
+            };
+        }
+        // A row that was never offered to.
+        let never = record.rows.iter().position(|row| row.class == 0);
+        record.last[never.expect("a row of class A")] = LastWords {
+            known: 0,
+            taken: random.word(),
+        };
+        let record = record.bytes();
+        every_call(bench, port, &record);
+        let mut kept = record;
+        for _ in 0..10 {
+            let made = any_call(random, &port.table);
+            bench.call(&mut kept, &made.bytes(), ANSWER_SIZE);
+        }
+    }
+}
+
+fn junk_frames(random: &mut Random, places: &mut [FrameWords]) {
+    for place in places {
+        *place = FrameWords {
+            source: random.word() >> 32,
+            size: random.word() >> 32,
+            taken: random.word(),
+        };
+    }
+}

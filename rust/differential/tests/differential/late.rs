@@ -1,0 +1,84 @@
+//! Records with a clock near its last value, and beyond it.
+
+use differential::files::SPECIMEN;
+use differential::random::Random;
+use differential::traffic::any_call;
+use ithumeco::{Answer, Call, Record, ANSWER_SIZE};
+use simulator::port::{LAST_CLOCK, MOST_ADVANCE};
+use simulator::{Port, Wire};
+
+use crate::bench::Bench;
+
+pub fn run(bench: &mut Bench) {
+    let mut random = Random::new(6);
+    let table = simulator::read(SPECIMEN).expect("the specimen");
+    for left in [0, 1, 2, 99, 100, 101, 65_534, 65_535, 65_536, 100_000] {
+        for port in ports() {
+            let late = moved(port, LAST_CLOCK - left);
+            for n in edges(left) {
+                advance(bench, &late, left, n);
+            }
+            for _ in 0..bench.times(10) {
+                let mut record = Record::from(&late).bytes();
+                for _ in 0..50 {
+                    let call = any_call(&mut random, &table);
+                    bench.call(&mut record, &call.bytes(), ANSWER_SIZE);
+                }
+            }
+        }
+    }
+    for clock in [LAST_CLOCK + 1, i64::MAX as u64, 1 << 63, u64::MAX] {
+        let mut record = Record::from(&Port::fresh(table.clone()));
+        record.clock = clock;
+        let said = bench.call(&mut record.bytes(), &Call::Advance(0).bytes(), ANSWER_SIZE);
+        assert_eq!(said, Some(Answer::refused(18)));
+    }
+}
+
+/// The specimen's port: fresh, and with frames waiting and on the wire.
+fn ports() -> [Port; 2] {
+    let fresh = Port::fresh(simulator::read(SPECIMEN).expect("the specimen"));
+    let mut busy = fresh.clone();
+    for row in 0..3 {
+        busy.offer(row, 0).expect("a sound port");
+    }
+    busy.offer_best(1500).expect("a sound port");
+    busy.advance(1).expect("a sound port");
+    [fresh, busy]
+}
+
+/// The same port at another clock.
+fn moved(mut port: Port, clock: u64) -> Port {
+    let by = clock - port.clock;
+    port.clock = clock;
+    let queues = [&mut port.queue_a, &mut port.queue_b, &mut port.queue_best];
+    for frame in queues.into_iter().flatten() {
+        frame.instant += by;
+    }
+    for last in port.last.iter_mut().flatten() {
+        *last += by;
+    }
+    if let Wire::Sending(frame, _) = &mut port.wire {
+        frame.instant += by;
+    }
+    port
+}
+
+/// Counts around the time that is left and around the most there is.
+fn edges(left: u64) -> [u64; 8] {
+    let most = MOST_ADVANCE;
+    let below = left.saturating_sub(1);
+    [0, 1, below, left, left + 1, most, most + 1, u64::MAX]
+}
+
+/// 15 comes before 16, and an advance to the last value is taken.
+fn advance(bench: &mut Bench, port: &Port, left: u64, n: u64) {
+    let mut record = Record::from(port).bytes();
+    let said = bench.call(&mut record, &Call::Advance(n).bytes(), ANSWER_SIZE);
+    let number = match n {
+        _ if n > MOST_ADVANCE => 15,
+        _ if n > left => 16,
+        _ => 0,
+    };
+    assert_eq!(said.map(|answer| answer.number), Some(number));
+}

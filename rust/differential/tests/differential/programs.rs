@@ -1,0 +1,186 @@
+//! The programs `portsheet` and `portrun`, as processes.
+
+use std::fs;
+use std::io::Write;
+use std::path::{Path, PathBuf};
+use std::process::{self, Command, Stdio};
+use std::thread;
+use std::time::Duration;
+
+use differential::files::{damaged, file_of, noise, SPECIMEN};
+use differential::random::Random;
+use differential::tables;
+use differential::traffic::any_call;
+use ithumeco::Call;
+use simulator::Table;
+
+use crate::bench::Bench;
+
+pub fn run(bench: &mut Bench) {
+    let folder = format!("programs-{}", process::id());
+    let folder = Path::new(env!("CARGO_TARGET_TMPDIR")).join(folder);
+    fs::create_dir_all(&folder).expect("a folder to run in");
+    let mut random = Random::new(7);
+    let programs = Programs {
+        portsheet: program("portsheet"),
+        portrun: program("portrun"),
+        folder,
+    };
+    for by_bytes in [false, true] {
+        programs.sheet(bench, SPECIMEN, by_bytes);
+        programs.sheet(bench, &[], by_bytes);
+        programs.sheet(bench, &[SPECIMEN, &[0; 2000]].concat(), by_bytes);
+        programs.list(bench, SPECIMEN, b"", by_bytes);
+        for line in STRANGE {
+            let text = format!("a 5\n{line}\na 5\n");
+            programs.list(bench, SPECIMEN, text.as_bytes(), by_bytes);
+        }
+    }
+    for _ in 0..bench.times(150) {
+        let file = any_file(&mut random);
+        programs.sheet(bench, &file, random.one_in(4));
+    }
+    for _ in 0..bench.times(150) {
+        let file = any_file(&mut random);
+        let table = simulator::read(&file).ok();
+        let text = any_text(&mut random, table.as_ref());
+        programs.list(bench, &file, &text, random.one_in(4));
+    }
+    fs::remove_dir_all(&programs.folder).expect("a folder that was made");
+}
+
+/// Lines of forms that `portrun` takes or stops at.
+const STRANGE: [&str; 24] = [
+    "",
+    " ",
+    "a",
+    "a ",
+    "a  5",
+    " a 5",
+    "a 5 ",
+    "a\t5",
+    "a 5\r",
+    "a +5",
+    "a -5",
+    "a 0x5",
+    "a 5 5",
+    "A 5",
+    "o 1",
+    "o 0  58",
+    "o 0 58 0",
+    "b",
+    "c 5",
+    "a 00000000000000000000005",
+    "a 18446744073709551616",
+    "b 99999999999999999999999999999999",
+    "o 18446744073709551615 0",
+    "o 0 058",
+];
+
+/// A program that the Rattle kit has built.
+fn program(name: &str) -> PathBuf {
+    let path = Path::new(env!("CARGO_MANIFEST_DIR")).join("../../target/bin");
+    let path = path.join(name);
+    assert!(
+        path.exists(),
+        "target/bin/{name} is missing: run `rt check portsheet portrun`"
+    );
+    path
+}
+
+struct Programs {
+    portsheet: PathBuf,
+    portrun: PathBuf,
+    folder: PathBuf,
+}
+
+impl Programs {
+    fn sheet(&self, bench: &mut Bench, file: &[u8], by_bytes: bool) {
+        let said = self.output(&self.portsheet, file, by_bytes);
+        let meant = simulator::portsheet(file);
+        assert!(said == meant, "{said}not\n{meant}for {file:02X?}");
+        count(bench, &said);
+    }
+
+    fn list(&self, bench: &mut Bench, file: &[u8], calls: &[u8], by_bytes: bool) {
+        fs::write(self.folder.join("table.avb"), file).expect("a table file");
+        let said = self.output(&self.portrun, calls, by_bytes);
+        let meant = simulator::portrun(file, calls);
+        let text = String::from_utf8_lossy(calls);
+        assert!(said == meant, "{said}not\n{meant}for {file:02X?}\n{text}");
+        count(bench, &said);
+    }
+
+    /// What a program prints. Its input comes whole, or byte by byte. It may
+    /// end before it has read all of it.
+    fn output(&self, program: &Path, input: &[u8], by_bytes: bool) -> String {
+        let mut child = Command::new(program)
+            .current_dir(&self.folder)
+            .stdin(Stdio::piped())
+            .stdout(Stdio::piped())
+            .stderr(Stdio::piped())
+            .spawn()
+            .expect("a program");
+        let mut pipe = child.stdin.take().expect("a pipe");
+        let output = thread::scope(|scope| {
+            scope.spawn(move || {
+                if !by_bytes {
+                    return pipe.write_all(input);
+                }
+                for byte in input {
+                    pipe.write_all(&[*byte])?;
+                    thread::sleep(Duration::from_micros(1));
+                }
+                Ok(())
+            });
+            child.wait_with_output().expect("an output")
+        });
+        let errors = String::from_utf8_lossy(&output.stderr);
+        assert!(errors.is_empty(), "{}: {errors}", program.display());
+        String::from_utf8(output.stdout).expect("plain text")
+    }
+}
+
+/// Counts a case and the numbers that a program printed.
+fn count(bench: &mut Bench, text: &str) {
+    bench.cases += 1;
+    for line in text.lines() {
+        let number = match line.strip_prefix("refused ") {
+            Some(words) => words.split(' ').next().and_then(|word| word.parse().ok()),
+            None => Some(0),
+        };
+        bench.saw(number.expect("a number"));
+    }
+}
+
+fn any_file(random: &mut Random) -> Vec<u8> {
+    match random.below(8) {
+        0 => damaged(random, SPECIMEN),
+        1 => file_of(&tables::edge(random)),
+        2 => noise(random),
+        _ => file_of(&tables::accepted(random)),
+    }
+}
+
+/// A list of calls as text, at times with a byte changed or the end missing.
+fn any_text(random: &mut Random, table: Option<&Table>) -> Vec<u8> {
+    let specimen = simulator::read(SPECIMEN).expect("the specimen");
+    let table = table.unwrap_or(&specimen);
+    let mut text = String::new();
+    for _ in 0..random.below(120) {
+        text += &match any_call(random, table) {
+            Call::Offer(row, payload) => format!("o {row} {payload}\n"),
+            Call::OfferBest(payload) => format!("b {payload}\n"),
+            Call::Advance(n) => format!("a {n}\n"),
+        };
+    }
+    let mut text = text.into_bytes();
+    if !text.is_empty() && random.one_in(4) {
+        let at = random.below(text.len());
+        text[at] = random.pick(b"0 \nabo\xFF");
+    }
+    if random.one_in(4) {
+        text.truncate(random.below(text.len() + 1));
+    }
+    text
+}

@@ -1,0 +1,42 @@
+//! What the groups have seen.
+
+/// The numbers of document 01's refusals.
+const NUMBERS: std::ops::RangeInclusive<usize> = 1..=18;
+
+/// How often each number was seen from the product, 0 where it did not refuse.
+pub type Counts = [u64; 256];
+
+#[derive(Default)]
+pub struct Tally {
+    groups: Vec<(&'static str, Counts)>,
+}
+
+impl Tally {
+    pub fn add(&mut self, name: &'static str, cases: u64, seconds: f64, numbers: &Counts) {
+        println!("{name:<8} {cases:>8} cases {seconds:>7.2} s");
+        self.groups.push((name, *numbers));
+    }
+
+    /// How often each group has seen each number, 0 standing for no refusal.
+    pub fn print(&self) {
+        print!("number");
+        for (name, _) in &self.groups {
+            print!(" {name:>9}");
+        }
+        println!();
+        for number in (0..=0).chain(NUMBERS).chain(101..=103) {
+            print!("{number:>6}");
+            for (_, counts) in &self.groups {
+                print!(" {:>9}", counts[number]);
+            }
+            println!();
+        }
+    }
+
+    /// The refusals that no group has seen.
+    pub fn unseen(&self) -> Vec<usize> {
+        NUMBERS
+            .filter(|&number| self.groups.iter().all(|(_, counts)| counts[number] == 0))
+            .collect()
+    }
+}

@@ -1,0 +1,77 @@
+//! An answer as bytes.
+
+use crate::words::{put_words, words};
+
+/// The size of an answer in bytes.
+pub const ANSWER_SIZE: usize = 40;
+
+/// The source of a best-effort frame.
+pub const BEST_EFFORT: u64 = 32;
+
+/// The source where no frame ended.
+pub const NO_FRAME: u64 = 33;
+
+/// The answer to a call.
+#[derive(Clone, Copy, Debug, PartialEq, Eq)]
+pub struct Answer {
+    /// The refusal's number, or 0.
+    pub number: u64,
+    /// The byte-times passed.
+    pub passed: u64,
+    /// The ended frame's row, or a mark.
+    pub source: u64,
+    /// The ended frame's wire size.
+    pub size: u64,
+    /// The instant at which the ended frame was taken.
+    pub taken: u64,
+}
+
+impl Answer {
+    /// The answer to an offer that is taken.
+    pub const TAKEN: Answer = Answer::passed(0);
+
+    /// The answer to a call that is refused.
+    pub const fn refused(number: u64) -> Answer {
+        Answer {
+            number,
+            ..Answer::TAKEN
+        }
+    }
+
+    /// The answer to an advance in which no frame ended.
+    pub const fn passed(n: u64) -> Answer {
+        Answer {
+            number: 0,
+            passed: n,
+            source: NO_FRAME,
+            size: 0,
+            taken: 0,
+        }
+    }
+
+    pub fn from_bytes(bytes: &[u8; ANSWER_SIZE]) -> Answer {
+        let mut words = words(bytes);
+        let mut next = || words.next().expect("five words");
+        Answer {
+            number: next(),
+            passed: next(),
+            source: next(),
+            size: next(),
+            taken: next(),
+        }
+    }
+
+    /// The answers in some bytes.
+    pub fn list(bytes: &[u8]) -> impl Iterator<Item = Answer> + '_ {
+        bytes
+            .chunks_exact(ANSWER_SIZE)
+            .map(|answer| Answer::from_bytes(answer.try_into().expect("a chunk of 40 bytes")))
+    }
+
+    pub fn bytes(self) -> [u8; ANSWER_SIZE] {
+        let words = [self.number, self.passed, self.source, self.size, self.taken];
+        let mut bytes = [0; ANSWER_SIZE];
+        put_words(&words, &mut bytes);
+        bytes
+    }
+}

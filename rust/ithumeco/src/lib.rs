@@ -1,0 +1,16 @@
+//! The static library's five calls on slices, and the bytes that they take and
+//! give. docs/ENCODING.md says what the bytes mean.
+
+mod answers;
+mod calls;
+mod library;
+mod records;
+mod words;
+
+pub use answers::{Answer, ANSWER_SIZE, BEST_EFFORT, NO_FRAME};
+pub use calls::{Call, CALL_SIZE};
+pub use library::{bounds, call, open, replay, rewrite, BOUNDS_SIZE};
+pub use records::{
+    FrameWords, LastWords, QueueWords, Record, RowWords, WireWords, RECORD_SIZE, RECORD_WORDS,
+};
+pub use words::{put_words, words};

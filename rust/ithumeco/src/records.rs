@@ -1,0 +1,227 @@
+//! A port record as bytes.
+
+use simulator::{Class, Frame, Mark, Port, Wire};
+
+use crate::answers::BEST_EFFORT;
+use crate::words::{put_words, words, WORD_SIZE};
+
+/// The size of a record in words.
+pub const RECORD_WORDS: usize = 447;
+
+/// The size of a record in bytes.
+pub const RECORD_SIZE: usize = RECORD_WORDS * WORD_SIZE;
+
+/// A row: class (0 A, 1 B), payload, period, deadline.
+#[derive(Clone, Copy, Debug, Default, PartialEq, Eq)]
+pub struct RowWords {
+    pub class: u64,
+    pub payload: u64,
+    pub period: u64,
+    pub deadline: u64,
+}
+
+/// A frame: its row or 32 for best effort, wire size, instant taken.
+#[derive(Clone, Copy, Debug, Default, PartialEq, Eq)]
+pub struct FrameWords {
+    pub source: u64,
+    pub size: u64,
+    pub taken: u64,
+}
+
+/// A queue: how many frames wait, and its places.
+#[derive(Clone, Copy, Debug, PartialEq, Eq)]
+pub struct QueueWords<const PLACES: usize> {
+    pub count: u64,
+    pub frames: [FrameWords; PLACES],
+}
+
+/// A row's last instant: whether it has one (0 or 1), and the instant.
+#[derive(Clone, Copy, Debug, Default, PartialEq, Eq)]
+pub struct LastWords {
+    pub known: u64,
+    pub taken: u64,
+}
+
+/// The wire: 0 and zeros when free; 1, the frame and its bytes left.
+#[derive(Clone, Copy, Debug, Default, PartialEq, Eq)]
+pub struct WireWords {
+    pub tag: u64,
+    pub frame: FrameWords,
+    pub left: u64,
+}
+
+/// A record's words by name. Each may hold any value.
+#[derive(Clone, Debug, PartialEq, Eq)]
+pub struct Record {
+    pub idle_a: u64,
+    pub idle_b: u64,
+    pub best_payload: u64,
+    pub count: u64,
+    pub rows: [RowWords; 32],
+    pub clock: u64,
+    /// Credits are in two's complement.
+    pub credit_a: u64,
+    pub credit_b: u64,
+    pub queue_a: QueueWords<32>,
+    pub queue_b: QueueWords<32>,
+    pub queue_best: QueueWords<16>,
+    pub last: [LastWords; 32],
+    pub wire: WireWords,
+}
+
+impl FrameWords {
+    fn each(&mut self, visit: &mut impl FnMut(&mut u64)) {
+        visit(&mut self.source);
+        visit(&mut self.size);
+        visit(&mut self.taken);
+    }
+}
+
+impl<const PLACES: usize> QueueWords<PLACES> {
+    const EMPTY: QueueWords<PLACES> = QueueWords {
+        count: 0,
+        frames: [FrameWords {
+            source: 0,
+            size: 0,
+            taken: 0,
+        }; PLACES],
+    };
+
+    fn each(&mut self, visit: &mut impl FnMut(&mut u64)) {
+        visit(&mut self.count);
+        for frame in &mut self.frames {
+            frame.each(visit);
+        }
+    }
+}
+
+impl Record {
+    /// A record of zeros.
+    pub fn zeros() -> Record {
+        Record {
+            idle_a: 0,
+            idle_b: 0,
+            best_payload: 0,
+            count: 0,
+            rows: Default::default(),
+            clock: 0,
+            credit_a: 0,
+            credit_b: 0,
+            queue_a: QueueWords::EMPTY,
+            queue_b: QueueWords::EMPTY,
+            queue_best: QueueWords::EMPTY,
+            last: Default::default(),
+            wire: WireWords::default(),
+        }
+    }
+
+    /// The words in their order.
+    fn each(&mut self, visit: &mut impl FnMut(&mut u64)) {
+        visit(&mut self.idle_a);
+        visit(&mut self.idle_b);
+        visit(&mut self.best_payload);
+        visit(&mut self.count);
+        for row in &mut self.rows {
+            visit(&mut row.class);
+            visit(&mut row.payload);
+            visit(&mut row.period);
+            visit(&mut row.deadline);
+        }
+        visit(&mut self.clock);
+        visit(&mut self.credit_a);
+        visit(&mut self.credit_b);
+        self.queue_a.each(visit);
+        self.queue_b.each(visit);
+        self.queue_best.each(visit);
+        for last in &mut self.last {
+            visit(&mut last.known);
+            visit(&mut last.taken);
+        }
+        visit(&mut self.wire.tag);
+        self.wire.frame.each(visit);
+        visit(&mut self.wire.left);
+    }
+
+    pub fn bytes(&self) -> [u8; RECORD_SIZE] {
+        let mut bytes = [0; RECORD_SIZE];
+        let mut places = bytes.chunks_exact_mut(WORD_SIZE);
+        self.clone().each(&mut |word| {
+            put_words(&[*word], places.next().expect("a place for each word"));
+        });
+        bytes
+    }
+
+    pub fn from_bytes(bytes: &[u8; RECORD_SIZE]) -> Record {
+        let mut record = Record::zeros();
+        let mut words = words(bytes);
+        record.each(&mut |word| *word = words.next().expect("a word for each place"));
+        record
+    }
+}
+
+fn frame_words(frame: &Frame) -> FrameWords {
+    FrameWords {
+        source: match frame.mark {
+            Mark::Row(row) => row as u64,
+            Mark::BestEffort => BEST_EFFORT,
+        },
+        size: frame.size,
+        taken: frame.instant,
+    }
+}
+
+fn queue_words<'a, const PLACES: usize>(
+    waiting: impl ExactSizeIterator<Item = &'a Frame>,
+) -> QueueWords<PLACES> {
+    let mut queue = QueueWords::EMPTY;
+    queue.count = waiting.len() as u64;
+    for (place, frame) in queue.frames.iter_mut().zip(waiting) {
+        *place = frame_words(frame);
+    }
+    queue
+}
+
+/// A port's record: zeros in the places that belong to no part.
+impl From<&Port> for Record {
+    fn from(port: &Port) -> Record {
+        let table = &port.table;
+        let mut record = Record {
+            idle_a: table.idle_a,
+            idle_b: table.idle_b,
+            best_payload: table.best_payload,
+            count: table.rows.len() as u64,
+            clock: port.clock,
+            credit_a: port.credit_a as u64,
+            credit_b: port.credit_b as u64,
+            queue_a: queue_words(port.queue_a.iter()),
+            queue_b: queue_words(port.queue_b.iter()),
+            queue_best: queue_words(port.queue_best.iter()),
+            ..Record::zeros()
+        };
+        for (place, row) in record.rows.iter_mut().zip(&table.rows) {
+            *place = RowWords {
+                class: match row.class {
+                    Class::A => 0,
+                    Class::B => 1,
+                },
+                payload: row.payload,
+                period: row.period,
+                deadline: row.deadline,
+            };
+        }
+        let in_use = port.last.iter().take(table.rows.len());
+        for (place, last) in record.last.iter_mut().zip(in_use) {
+            if let Some(taken) = *last {
+                *place = LastWords { known: 1, taken };
+            }
+        }
+        if let Wire::Sending(frame, left) = &port.wire {
+            record.wire = WireWords {
+                tag: 1,
+                frame: frame_words(frame),
+                left: *left,
+            };
+        }
+        record
+    }
+}

@@ -1,0 +1,75 @@
+//! Document 01's facts (d), (e) and (g) on the specimen port, through the
+//! static library. The numbers are the document's.
+
+use ithumeco::{call, open, replay, Answer, Call, Record, ANSWER_SIZE, RECORD_SIZE};
+
+/// The specimen's table file.
+const SPECIMEN: &[u8] = include_bytes!("../../../tables/specimen.avb");
+
+/// The answer to an advance in which a frame ended.
+fn ended(passed: u64, source: u64, size: u64, taken: u64) -> Answer {
+    Answer {
+        number: 0,
+        passed,
+        source,
+        size,
+        taken,
+    }
+}
+
+/// Makes the calls as a list and one by one, holds the answers of both to the
+/// document's, and gives the credit of A that the calls lead to.
+fn credit_a_after(steps: &[(Call, Answer)]) -> i64 {
+    let calls: Vec<u8> = steps.iter().flat_map(|(call, _)| call.bytes()).collect();
+    let mut answers = vec![0; ANSWER_SIZE * steps.len()];
+    assert_eq!(replay(SPECIMEN, &calls, &mut answers), Ok(()));
+    let expected: Vec<Answer> = steps.iter().map(|(_, answer)| *answer).collect();
+    assert_eq!(Answer::list(&answers).collect::<Vec<_>>(), expected);
+
+    let mut record = [0; RECORD_SIZE];
+    assert_eq!(open(SPECIMEN, &mut record), Ok(()));
+    for (made, expected) in steps {
+        let mut answer = [0; ANSWER_SIZE];
+        assert_eq!(call(&mut record, &made.bytes(), &mut answer), Ok(()));
+        assert_eq!(Answer::from_bytes(&answer), *expected, "{made:?}");
+    }
+    Record::from_bytes(&record).credit_a as i64
+}
+
+#[test]
+fn fact_d() {
+    let credit = credit_a_after(&[
+        (Call::OfferBest(1500), Answer::TAKEN),
+        (Call::Advance(1), Answer::passed(1)),
+        (Call::Offer(0, 58), Answer::TAKEN),
+        (Call::Advance(5000), ended(1541, 32, 1542, 0)),
+        (Call::Advance(5000), ended(100, 0, 100, 1)),
+    ]);
+    assert_eq!(credit, 0);
+}
+
+#[test]
+fn fact_e() {
+    let first = [
+        (Call::Offer(0, 58), Answer::TAKEN),
+        (Call::Advance(5000), ended(100, 0, 100, 0)),
+    ];
+    assert_eq!(credit_a_after(&first), -75_000_000);
+    let then = [
+        (Call::Offer(1, 258), Answer::TAKEN),
+        (Call::Advance(1000), ended(600, 1, 300, 100)),
+    ];
+    credit_a_after(&[first, then].concat());
+}
+
+#[test]
+fn fact_g() {
+    credit_a_after(&[
+        (Call::Offer(0, 58), Answer::TAKEN),
+        (Call::Advance(15_624), ended(100, 0, 100, 0)),
+        (Call::Advance(15_524), Answer::passed(15_524)),
+        (Call::Offer(0, 58), Answer::refused(13)),
+        (Call::Advance(1), Answer::passed(1)),
+        (Call::Offer(0, 58), Answer::TAKEN),
+    ]);
+}

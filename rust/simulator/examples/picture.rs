@@ -1,0 +1,10 @@
+//! Prints the picture of one run of the specimen's port, docs/run.svg:
+//!
+//!     cargo run --manifest-path rust/Cargo.toml --example picture > docs/run.svg
+
+#[path = "picture/drawing.rs"]
+mod drawing;
+
+fn main() {
+    print!("{}", drawing::picture().expect("the run has no refusal"));
+}
