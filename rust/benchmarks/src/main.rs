@@ -89,7 +89,7 @@ fn lines() -> Vec<Line> {
             "byte-time where frames wait for credit (32 rows offered at once)",
             by_byte_time(
                 &tables::of_long_waits(),
-                &tables::all_offered(Call::Advance(65_535), 100),
+                &tables::all_offered(1500, Call::Advance(65_535), 94),
             ),
             Some(8.0),
             1.5,
@@ -110,14 +110,26 @@ fn lines() -> Vec<Line> {
             "advance by 0, 32 rows, every row's frame waiting",
             replayed(
                 &many,
-                &tables::all_offered(Call::Advance(0), 100_000),
+                &tables::all_offered(50, Call::Advance(0), 100_000),
                 100_000,
             ),
             None,
             2.0,
         ),
         line(
-            "offer and advance of an 84-byte frame, 3 rows",
+            "offer to a row, refused as early, 3 rows",
+            replayed(&three, &repeated(&[Call::Offer(0, 58)], 100_000), 100_000),
+            None,
+            2.0,
+        ),
+        line(
+            "offer to a row, refused as early, 32 rows",
+            replayed(&many, &repeated(&[Call::Offer(0, 50)], 100_000), 100_000),
+            None,
+            2.0,
+        ),
+        line(
+            "offer and advance of an 84-byte best-effort frame, 3 rows",
             replayed(
                 &three,
                 &repeated(&[Call::OfferBest(42), Call::Advance(84)], 50_000),
@@ -127,7 +139,7 @@ fn lines() -> Vec<Line> {
             2.0,
         ),
         line(
-            "offer and advance of an 84-byte frame, 32 rows",
+            "offer and advance of an 84-byte best-effort frame, 32 rows",
             replayed(
                 &many,
                 &repeated(&[Call::OfferBest(42), Call::Advance(84)], 50_000),
@@ -193,7 +205,7 @@ fn main() {
             .below_ns
             .map_or(String::new(), |most| format!(", under {most} ns"));
         println!(
-            "| {} | {ours:.1} | {theirs:.1} | {ratio:.2} | at most {}{ns}: {} |",
+            "| {} | {ours:.2} | {theirs:.2} | {ratio:.3} | at most {}{ns}: {} |",
             line.name,
             line.below_ratio,
             if met { "met" } else { "missed" },

@@ -48,9 +48,9 @@ pub fn of_long_waits() -> Vec<u8> {
     })
 }
 
-/// An offer to each of 32 rows, then the same call again and again: so many
-/// calls in all.
-pub fn all_offered(then: Call, calls: usize) -> Vec<Call> {
-    let offers = (0..32).map(|row| Call::Offer(row, 50));
+/// A frame offered to each of 32 rows, then the same call again and again: so
+/// many calls in all.
+pub fn all_offered(payload: u64, then: Call, calls: usize) -> Vec<Call> {
+    let offers = (0..32).map(|row| Call::Offer(row, payload));
     offers.chain(std::iter::repeat(then)).take(calls).collect()
 }

@@ -5,19 +5,29 @@ use ithumeco::Call;
 use simulator::port::{LEAST_SIZE, MOST_ADVANCE};
 use simulator::{Class, Mark, Wire};
 
+/// What holds a row's frame up, besides its neighbours.
+#[derive(Clone, Copy, PartialEq, Eq)]
+pub enum Way {
+    /// A blocking frame begins one byte-time before the frame's turn.
+    Blocked,
+    /// The same, and the class's largest frame has just been sent. Its row
+    /// cannot be offered to again so soon, so one neighbour fewer waits.
+    InDebt,
+    /// For B: while the neighbour ahead is sent, a backlog of A builds up.
+    BehindItsOwn,
+}
+
+pub const WAYS: [Way; 3] = [Way::Blocked, Way::InDebt, Way::BehindItsOwn];
+
 /// Offers a row's frame behind all its neighbours in the same instant, with the
-/// credit of its class as low as it can be. A blocking frame begins one
-/// byte-time before the frame's turn.
-///
-/// With `debt` the class's largest frame has just been sent. Its row cannot be
-/// offered to again so soon, so without it one more neighbour waits.
-pub fn hunt(driver: &mut Driver, row: usize, debt: bool) {
+/// credit of its class as low as it can be.
+pub fn hunt(driver: &mut Driver, row: usize, way: Way) {
     quiet(driver);
     let class = driver.port.table.rows[row].class;
     let mut neighbours = of_class(driver, class);
     neighbours.retain(|&other| other != row);
     let alone = neighbours.is_empty();
-    if debt {
+    if way == Way::InDebt {
         if let Some(largest) = neighbours.pop() {
             driver.offer(largest);
             driver.make(Call::Advance(MOST_ADVANCE));
@@ -30,7 +40,10 @@ pub fn hunt(driver: &mut Driver, row: usize, debt: bool) {
         driver.offer(other);
     }
     driver.offer(row);
-    if !alone {
+    if way == Way::BehindItsOwn && class == Class::B {
+        until_next(driver, row);
+        backlog(driver);
+    } else if !alone {
         until_turn(driver, row, class);
         block(driver, class);
     }
@@ -85,6 +98,22 @@ fn until_turn(driver: &mut Driver, row: usize, class: Class) {
             return;
         }
         driver.make(Call::Advance((wait as u64).min(MOST_ADVANCE)));
+    }
+}
+
+/// Advances until a row's frame is the next of class B, and the one ahead of it
+/// has begun.
+fn until_next(driver: &mut Driver, row: usize) {
+    loop {
+        let port = &driver.port;
+        if port.queue_b.front().map(|frame| frame.mark) == Some(Mark::Row(row)) {
+            return;
+        }
+        let wait = match port.wire {
+            Wire::Sending(..) => MOST_ADVANCE,
+            Wire::Free => (-port.credit_b).max(0) as u64 / port.table.idle(Class::B),
+        };
+        driver.make(Call::Advance(wait.clamp(1, MOST_ADVANCE)));
     }
 }
 

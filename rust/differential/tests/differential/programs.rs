@@ -2,10 +2,12 @@
 
 use std::fs;
 use std::io::Write;
+use std::os::fd::OwnedFd;
+use std::os::unix::net::UnixDatagram;
+use std::os::unix::process::ExitStatusExt;
 use std::path::{Path, PathBuf};
-use std::process::{self, Command, Stdio};
+use std::process::{self, Child, Command, Output, Stdio};
 use std::thread;
-use std::time::Duration;
 
 use differential::files::{damaged, file_of, noise, SPECIMEN};
 use differential::random::Random;
@@ -31,6 +33,7 @@ pub fn run(bench: &mut Bench) {
         programs.sheet(bench, &[], by_bytes);
         programs.sheet(bench, &[SPECIMEN, &[0; 2000]].concat(), by_bytes);
         programs.list(bench, SPECIMEN, b"", by_bytes);
+        programs.list(bench, &[SPECIMEN, &[0; 2000]].concat(), b"a 5\n", by_bytes);
         for line in STRANGE {
             let text = format!("a 5\n{line}\na 5\n");
             programs.list(bench, SPECIMEN, text.as_bytes(), by_bytes);
@@ -46,6 +49,7 @@ pub fn run(bench: &mut Bench) {
         let text = any_text(&mut random, table.as_ref());
         programs.list(bench, &file, &text, random.one_in(4));
     }
+    programs.without_table(bench);
     fs::remove_dir_all(&programs.folder).expect("a folder that was made");
 }
 
@@ -111,34 +115,66 @@ impl Programs {
         count(bench, &said);
     }
 
-    /// What a program prints. Its input comes whole, or byte by byte. It may
-    /// end before it has read all of it.
+    /// Without a table file `portrun` prints one line of error and no answer.
+    fn without_table(&self, bench: &mut Bench) {
+        fs::remove_file(self.folder.join("table.avb")).expect("a table file");
+        let output = fed_whole(self.started(&self.portrun, Stdio::piped()), b"a 5\n");
+        let errors = String::from_utf8(output.stderr).expect("plain text");
+        assert!(
+            output.stdout.is_empty() && errors.lines().count() == 1,
+            "{errors}"
+        );
+        bench.cases += 1;
+    }
+
+    /// What a program prints.
     fn output(&self, program: &Path, input: &[u8], by_bytes: bool) -> String {
-        let mut child = Command::new(program)
+        let output = if by_bytes {
+            let (ours, theirs) = UnixDatagram::pair().expect("two sockets");
+            fed_by_bytes(
+                self.started(program, OwnedFd::from(theirs).into()),
+                ours,
+                input,
+            )
+        } else {
+            fed_whole(self.started(program, Stdio::piped()), input)
+        };
+        let errors = String::from_utf8_lossy(&output.stderr);
+        assert!(errors.is_empty(), "{}: {errors}", program.display());
+        assert_eq!(output.status.signal(), None, "{}", program.display());
+        String::from_utf8(output.stdout).expect("plain text")
+    }
+
+    fn started(&self, program: &Path, input: Stdio) -> Child {
+        Command::new(program)
             .current_dir(&self.folder)
-            .stdin(Stdio::piped())
+            .stdin(input)
             .stdout(Stdio::piped())
             .stderr(Stdio::piped())
             .spawn()
-            .expect("a program");
-        let mut pipe = child.stdin.take().expect("a pipe");
-        let output = thread::scope(|scope| {
-            scope.spawn(move || {
-                if !by_bytes {
-                    return pipe.write_all(input);
-                }
-                for byte in input {
-                    pipe.write_all(&[*byte])?;
-                    thread::sleep(Duration::from_micros(1));
-                }
-                Ok(())
-            });
-            child.wait_with_output().expect("an output")
-        });
-        let errors = String::from_utf8_lossy(&output.stderr);
-        assert!(errors.is_empty(), "{}: {errors}", program.display());
-        String::from_utf8(output.stdout).expect("plain text")
+            .expect("a program")
     }
+}
+
+/// Input through a pipe. A program may end before it has read all of it.
+fn fed_whole(mut child: Child, input: &[u8]) -> Output {
+    let mut pipe = child.stdin.take().expect("a pipe");
+    thread::scope(|scope| {
+        scope.spawn(move || pipe.write_all(input));
+        child.wait_with_output().expect("an output")
+    })
+}
+
+/// Input a byte at a read: each read takes one datagram, and an empty one is
+/// the end.
+fn fed_by_bytes(child: Child, socket: UnixDatagram, input: &[u8]) -> Output {
+    thread::scope(|scope| {
+        scope.spawn(move || {
+            let sent = input.iter().all(|&byte| socket.send(&[byte]).is_ok());
+            sent && socket.send(&[]).is_ok()
+        });
+        child.wait_with_output().expect("an output")
+    })
 }
 
 /// Counts a case and the numbers that a program printed.

@@ -9,7 +9,7 @@ use ithumeco::{words, BOUNDS_SIZE};
 use simulator::{Class, Table};
 
 use crate::bench::Bench;
-use crate::hunt::hunt;
+use crate::hunt::{hunt, WAYS};
 use crate::watch::Watch;
 
 /// The longest period of a table that is hunted on.
@@ -37,7 +37,9 @@ fn on_table(bench: &mut Bench, random: &mut Random, closest: &mut Closest, table
     let file = file_of(&table);
     let mut driver = Driver::new(table);
     for row in 0..driver.port.table.rows.len() {
-        hunt(&mut driver, row, random.one_in(2));
+        for way in WAYS {
+            hunt(&mut driver, row, way);
+        }
     }
     dense_calls(random, &mut driver, 1000);
     let answers = bench.replay_played(&file, &driver, 0);

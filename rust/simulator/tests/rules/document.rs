@@ -218,7 +218,7 @@ fn blocking_of_a_by_class_b() {
 fn blocking_of_b_by_an_a_burst() {
     // LA and the best-effort part: 300 + 1542 / 0.75.
     assert_eq!(table().blocking(Class::B), 300 + 2056);
-    // Best effort of 84 bytes: 300 + 112.
+    // With best effort of 84 bytes B's own largest frame blocks longer: 300 + 250,000 × 500 / 750,000.
     let mut table = table();
     table.best_payload = 0;
     assert_eq!(
