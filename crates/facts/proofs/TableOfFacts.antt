@@ -1,19 +1,33 @@
 -- Document 01's facts (a) to (g), by computing the definitions.
-use mathlib.Core.Path.{refl}
-use Rattle.planner.specs.Wire.{ceilDiv, wireSize, sizeFor, sizeOf, periodOf, shareOf}
-use Rattle.planner.specs.Rows.{rowsOf, sumOver, maxOver, members, largest, total, shares, bestSize}
-use Rattle.planner.specs.Bound.{blocking, boundIn, bound, bounds}
-use Rattle.planner.specs.Opening.{countOk, headerOk, rowOk, usedOk, slopesOk, sharesOk, timely, firstFrom, ranged, opening}
-use Rattle.machine.specs.State.{fresh}
-use Rattle.machine.specs.Time.{owner, start, byteTime, endsIn, progress}
-use Rattle.machine.specs.Record.{tableSound, clockSound, creditSound, bestSound, namesSound, queuesSound, sizesSound, leftSound, framesTaken, rowsTaken, held, singleSound, latestSound, ageSound, sound}
-use Rattle.machine.specs.Calls.{offerCheck, bestCheck, advanceCheck, takeRow, takeBest}
-use Rattle.facts.specs.Facts.{Facts}
+use mathlib.Core.List.{[], _∷_}
+use mathlib.Core.Path.{_≡_, refl, ap}
+use lib.IntN.{pos}
+use Rattle.table.specs.Wire.{ceilDiv, wireSize, sizeFor, sizeOf, periodOf, shareOf}
+use Rattle.table.specs.Rows.{rowsOf, inUse}
+use Rattle.table.specs.Checks.{passing}
+use Rattle.table.specs.Ranges.{countOk, headerOk, rowOk, ranged}
+use Rattle.planner.specs.Sums.{sumOver, maxOver, members, largest, total, shares, bestSize}
+use Rattle.planner.specs.Bound.{blocking, residenceIn, residence, bound, bounds}
+use Rattle.planner.specs.Opening.{usedOk, slopesOk, sharesOk, timely, opening}
+use Rattle.machine.specs.Limits.{mostOf}
+use Rattle.machine.specs.declared.Wire.the-variants.{Free}
+use Rattle.machine.specs.State.{State, never, at, fresh}
+use Rattle.machine.specs.Time.{owner, start, reportedIn, byteTime, endsIn, progress}
+use Rattle.machine.specs.Record.{tableSound, clockSound, creditSound, bestSound, namesSound, queuesSound, sizesSound, leftSound, framesTaken, rowsTaken, held, heldSound, latestSound, ageSound, sound}
+use Rattle.machine.specs.Calls.{offer, advance, after, answer, offerCheck, bestCheck, advanceCheck, takeRow, takeBest}
+use Rattle.facts.specs.Specimen.{specimen}
+use Rattle.facts.specs.Facts.{port, inG, Facts}
+
+-- the port of (g) before the second offer: worked out once, for three facts
+abbrev stateG : State
+stateG = record { table = specimen; clock = 15624; credita = pos 0; creditb = pos 0; a = []; b = []; best = []; last = at 0 ∷ never ∷ never ∷ []; wire = Free }
 
 pub facts : Facts
-unfolding ceilDiv wireSize sizeFor sizeOf periodOf shareOf rowsOf sumOver maxOver members largest total shares bestSize blocking boundIn bound bounds countOk headerOk rowOk usedOk slopesOk sharesOk timely firstFrom ranged opening fresh owner start byteTime endsIn progress tableSound clockSound creditSound bestSound namesSound queuesSound sizesSound leftSound framesTaken rowsTaken held singleSound latestSound ageSound sound offerCheck bestCheck advanceCheck takeRow takeBest
+unfolding ceilDiv wireSize sizeFor sizeOf periodOf shareOf rowsOf inUse passing countOk headerOk rowOk ranged sumOver maxOver members largest total shares bestSize blocking residenceIn residence bound bounds usedOk slopesOk sharesOk timely opening mostOf fresh owner start reportedIn byteTime endsIn progress tableSound clockSound creditSound bestSound namesSound queuesSound sizesSound leftSound framesTaken rowsTaken held heldSound latestSound ageSound sound offerCheck bestCheck advanceCheck takeRow takeBest
 facts =
+    let g : port inG ≡ stateG = refl in
     record {
+      table = refl;
       a = refl;
       a-blocking = refl;
       b-blocking = refl;
@@ -29,9 +43,9 @@ facts =
       e-first = refl;
       e-credit = refl;
       e-second = refl;
-      g-clock = refl;
-      g-early = refl;
-      g-taken = refl;
+      g-clock = ap (λ s. s .clock) g;
+      g-early = ap (λ s. answer s (offer 0 58)) g;
+      g-taken = ap (λ s. answer (after s (advance 1)) (offer 0 58)) g;
       f-3142 = refl;
       f-3141 = refl;
     }

@@ -3,15 +3,16 @@ use mathlib.Core.List.{List, [], _∷_, map}
 use mathlib.Core.Path.{_≡_}
 use lib.IntN.{pos, negsuc}
 use lib.ListN.{replicate}
-use Rattle.planner.specs.declared.Class.the-variants.{A, B}
-use Rattle.planner.specs.Wire.{wireSize, sizeOf, shareOf}
-use Rattle.planner.specs.Rows.{rowsOf}
+use Rattle.table.specs.declared.Class.the-variants.{A, B}
+use Rattle.table.specs.Wire.{wireSize, sizeOf, shareOf}
+use Rattle.table.specs.Rows.{contents}
+use Rattle.table.specs.Checks.{accepted, refused}
 use Rattle.planner.specs.Bound.{blocking, bounds}
-use Rattle.planner.specs.Opening.{accepted, refused, opening}
+use Rattle.planner.specs.Opening.{opening}
 use Rattle.machine.specs.declared.Ended.the-variants.{Reported}
 use Rattle.machine.specs.State.{State, fresh}
 use Rattle.machine.specs.Calls.{Call, offer, offerBest, advance, taken, passed, denied, after, answer}
-use Rattle.facts.specs.Specimen.{specimen, specimenWith}
+use Rattle.facts.specs.Specimen.{specimen, specimenWith, specimenTable}
 
 -- The port after calls, the first one first.
 abbrev pub played : State → List Call → State
@@ -34,14 +35,16 @@ abbrev pub inG : List Call
 inG = offer 0 58 ∷ advance 100 ∷ advance 15524 ∷ []
 
 pub record Facts : Type 0 where
+  -- the table record says what the specimen says
+  pub table : contents specimenTable ≡ specimen
   -- (a) the three bounds; HA and HB; the sheet's wire sizes
   pub a : bounds specimen ≡ 3742 ∷ 3142 ∷ 4856 ∷ replicate 29 0
   pub a-blocking : blocking A specimen ≡ 1542
   pub b-blocking : blocking B specimen ≡ 2356
-  pub a-sizes : map sizeOf (rowsOf specimen) ≡ 100 ∷ 300 ∷ 500 ∷ []
+  pub a-sizes : map sizeOf (specimen .rows) ≡ 100 ∷ 300 ∷ 500 ∷ []
   pub a-accepts : opening specimen ≡ accepted
   -- (b) shares
-  pub b : map shareOf (rowsOf specimen) ≡ 6400 ∷ 19200 ∷ 16000 ∷ []
+  pub b : map shareOf (specimen .rows) ≡ 6400 ∷ 19200 ∷ 16000 ∷ []
   -- (c) payload 42 gives 84, 43 gives 85, 1500 gives 1542
   pub c-42 : wireSize 42 ≡ 84
   pub c-43 : wireSize 43 ≡ 85

@@ -1,25 +1,22 @@
--- An advance: byte-times until a frame ends keep the invariant and report in time.
+-- An advance: byte-times until a frame is reported keep the invariant and report in time.
 use Prim.Native.Nat.{ℕ, zero, suc, _+_, _≤_, _<_}
 use mathlib.Core.Bool.{Bool, true, false, cond}
-use mathlib.Core.List.{List, [], _∷_}
 use mathlib.Core.Path.{_≡_, refl, sym, _∙_, ap, subst}
 use native.Mathlib.Nat.{add-suc, add-zero, le-trans, le-suc}
 use native.Mathlib.Omega.{arith}
-use lib.IntN.{ℤ}
-use lib.ListN.{length}
-use Rattle.planner.specs.declared.Table.{Table}
-use Rattle.planner.specs.Rows.{rowsOf, rowAt}
+use Rattle.table.specs.declared.Class.the-variants.{A, B}
+use Rattle.table.specs.Rows.{Contents, rowAt, InUse}
 use Rattle.planner.specs.Bound.{bound}
 use Rattle.machine.specs.declared.Frame.{Frame}
 use Rattle.machine.specs.declared.Wire.{Wire}
 use Rattle.machine.specs.declared.Wire.the-variants.{Free, Sending}
 use Rattle.machine.specs.declared.Ended.{Ended}
 use Rattle.machine.specs.declared.Ended.the-variants.{Reported, Nothing}
-use Rattle.machine.specs.State.{Instant, State}
-use Rattle.machine.specs.Time.{ready, sendA, sendB, sendBest, startOn, start, wireAfter, endedBy, byteTime, endsIn, Progress, further, progress}
-use Rattle.machine.specs.Record.{lastClock, count}
-use Rattle.machine.proofs.Invariant.{Inv, Holds}
-use Rattle.machine.proofs.Start.{Started, starts}
+use Rattle.machine.specs.State.{State}
+use Rattle.machine.specs.Time.{ready, sendOf, sendBest, startOn, start, byteTime, endsIn, Progress, further, progress}
+use Rattle.machine.specs.Limits.{lastClock}
+use Rattle.machine.proofs.Invariant.{Holds}
+use Rattle.machine.proofs.Start.{starts}
 use Rattle.machine.proofs.Byte.{byte-keeps, ends-in-time}
 
 -- ---- what a start leaves alone
@@ -35,7 +32,7 @@ start-same s = by-wire (s .wire)
     same : Same s s
     same = record { table = refl; clock = refl; last = refl }
 
-    on-free : (x y : Bool) → Same s (cond x (sendA s) (cond y (sendB s) (sendBest s)))
+    on-free : (x y : Bool) → Same s (cond x (sendOf A s) (cond y (sendOf B s) (sendBest s)))
     on-free true y = record { table = refl; clock = refl; last = refl }
     on-free false true = record { table = refl; clock = refl; last = refl }
     on-free false false = record { table = refl; clock = refl; last = refl }
@@ -59,14 +56,14 @@ byte-last s = start-same s .last
 
 byte-holds : (s : State) → Holds s → s .clock < lastClock → Holds (byteTime s)
 unfolding byteTime
-byte-holds s h l = byte-keeps (start s) (h .ua) (h .ub) (rw (start-same s .clock) l) (starts s (h .ua) (h .ub) (h .inv))
+byte-holds s h l = byte-keeps (start s) (h .u) (starts s (h .u) (h .inv)) (rw (start-same s .clock) l)
 
-byte-ends : (s : State) → Holds s → (f : Frame) → endsIn s ≡ Reported f → f .source < length (rowsOf (s .table)) → byteTime s .clock ≤ f .taken + bound (s .table) (rowAt (s .table) (f .source))
+byte-ends : (s : State) → Holds s → (f : Frame) → endsIn s ≡ Reported f → InUse (s .table) (f .source) → byteTime s .clock ≤ f .taken + bound (s .table) (rowAt (s .table) (f .source))
 unfolding endsIn
 byte-ends s h f e l =
-    let st = starts s (h .ua) (h .ub) (h .inv) in
+    let st = starts s (h .u) (h .inv) in
     let same = start-same s in
-    let due = ends-in-time (start s) (h .ua) (h .ub) (st .inv) f e (rw (same .table) l) in
+    let due = ends-in-time (start s) (h .u) (st .inv) f e (rw (same .table) l) in
     rw (byte-clock s) (rw (same .clock, same .table) at due)
 
 -- ---- an advance
@@ -76,7 +73,7 @@ pub record Reached (s : State) (n : ℕ) (p : Progress) : Type 0 where
   pub last : p .state .last ≡ s .last
   pub clock : p .state .clock ≡ s .clock + p .passed
   pub most : p .passed ≤ n
-  pub in-time : (f : Frame) → p .ended ≡ Reported f → f .source < length (rowsOf (s .table)) → p .state .clock ≤ f .taken + bound (s .table) (rowAt (s .table) (f .source))
+  pub in-time : (f : Frame) → p .ended ≡ Reported f → InUse (s .table) (f .source) → p .state .clock ≤ f .taken + bound (s .table) (rowAt (s .table) (f .source))
 
 go-on : (s : State) (n : ℕ) (p : Progress) (e : Ended) → p .ended ≡ e → s .clock + suc n ≤ lastClock → Reached s n p → Reached s (suc n) (further e p)
 go-on s n p (Reported f) q l r =
@@ -88,7 +85,7 @@ go-on s n p Nothing q l r =
       last = byte-last (p .state) ∙ r .last;
       clock = byte-clock (p .state) ∙ ap suc (r .clock) ∙ sym (add-suc (s .clock) (p .passed));
       most = omega (arith, r .most);
-      in-time = λ f e h. subst (λ (t : Table). byteTime (p .state) .clock ≤ f .taken + bound t (rowAt t (f .source))) (r .table) (byte-ends (p .state) (r .holds) f e (rw (r .table) h));
+      in-time = λ f e h. subst (λ (t : Contents). byteTime (p .state) .clock ≤ f .taken + bound t (rowAt t (f .source))) (r .table) (byte-ends (p .state) (r .holds) f e (rw (r .table) h));
     }
 
 pub advances : (s : State) (n : ℕ) → Holds s → s .clock + n ≤ lastClock → Reached s n (progress n s)

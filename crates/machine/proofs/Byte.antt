@@ -1,95 +1,80 @@
--- A byte passes: steps 2, 3 and 4 keep the invariant, and a row's frame that ends does so within its bound.
+-- A byte passes: steps 2, 3 and 4 keep the invariant, and a row's frame that is reported is so within its bound.
 use Prim.Native.Nat.{ℕ, zero, suc, _+_, _-_, _*_, _≤_, _<_}
-use mathlib.Core.Bool.{Bool, true, false}
+use mathlib.Core.Bool.{Bool, true, false, cond}
 use mathlib.Core.List.{List, [], _∷_}
-use mathlib.Core.Path.{_≡_, refl, sym, _∙_, ap}
+use mathlib.Core.Path.{_≡_, refl, subst}
 use native.Mathlib.Nat.{le-trans}
 use native.Mathlib.Omega.{arith}
 use lib.IntN.{ℤ}
-use lib.ListN.{length}
-use Rattle.planner.specs.declared.Class.{Class}
-use Rattle.planner.specs.declared.Class.the-variants.{A, B}
-use Rattle.planner.specs.declared.Table.{Table}
-use Rattle.planner.specs.Wire.{sizeOf}
-use Rattle.planner.specs.Rows.{rowsOf, rowAt, largest, total, idle, send, bestSize}
-use Rattle.planner.specs.Bound.{blocking, bound}
+use lib.Dec.{eqb}
+use borrow.Author.Tests.{eqb-true}
+use Rattle.table.specs.declared.Class.{Class}
+use Rattle.table.specs.declared.Class.the-variants.{A, B}
+use Rattle.table.specs.Limits.{D, leftAtReport}
+use Rattle.table.specs.Rows.{Contents, rowAt, InUse}
+use Rattle.planner.specs.Sums.{total, idle, send, bestSize}
+use Rattle.planner.specs.Bound.{blocking, residence, bound}
 use Rattle.planner.specs.Opening.{IsAccepted}
 use Rattle.planner.proofs.Laws as law
 use Rattle.machine.specs.declared.Frame.{Frame}
 use Rattle.machine.specs.declared.Wire.{Wire}
 use Rattle.machine.specs.declared.Wire.the-variants.{Free, Sending}
-use Rattle.machine.specs.declared.Ended.{Ended}
 use Rattle.machine.specs.declared.Ended.the-variants.{Reported, Nothing}
-use Rattle.machine.specs.State.{Instant, never, at, State}
-use Rattle.machine.specs.Time.{Owner, shaped, unshaped, owner, owns, onWire, earned, settled, earn, pass, settle, wireAfter, endedBy}
-use Rattle.machine.specs.Record.{lastClock, count, inQueue, sending}
+use Rattle.machine.specs.Limits.{lastClock}
+use Rattle.machine.specs.State.{Instant, never, at, State, credit, queue}
+use Rattle.machine.specs.Time.{Owner, shaped, unshaped, owner, owns, onWire, earned, earn, pass, settled, settle, wireAfter, reportedIn}
+use Rattle.machine.specs.Record.{sending, held}
 use Rattle.machine.proofs.Tokens.{tokens, tokens-most, tokens-rise}
-use Rattle.machine.proofs.OneClass.{Look, mine, other, isMine, next, All, Kept, Sending-of, Shift, Moved}
+use Rattle.machine.proofs.OneClass.{All, Ground, Kept, Shift, Sends, Sending-of, Due, pays, earns, byte-grounds}
 use Rattle.machine.proofs.OneClass as one
-use Rattle.machine.proofs.Both.{Line, free, byA, byB, byBest, nextLine, ShiftA, ShiftB}
+use Rattle.machine.proofs.Both.{ShiftA, ShiftB}
 use Rattle.machine.proofs.Both as both
-use Rattle.machine.proofs.Invariant.{lookBy, look, lineBy, line, RowFrame, BestFrame, WireFrame, OnTheWire, NoneAfter, KeptBy, Ceiled, Idled, Inv, Holds, named-owner, look-is, look-next, line-next, b-below, a-below, ha-some, lc-some}
+use Rattle.machine.proofs.Invariant.{lookBy, look, lineBy, line, RowFrame, BestFrame, WireFrame, OnTheWire, LatestOn, NoneAfter, terms, GroundOf, KeptOf, Always, Timed, Inv, Holds, each, named-owner, look-is, look-next, line-next, room}
 use Rattle.machine.proofs.Start.{Started}
 
-module _ (t : Table) (ok : IsAccepted t) where
-  tokens-up : (c : Class) (now : ℕ) (last : List Instant) → tokens c (suc now) (rowsOf t) last ≤ tokens c now (rowsOf t) last + idle c t
-  tokens-up c now last = omega (arith, tokens-rise c now (rowsOf t) last, law.shares-within t ok c, law.shares-sum c t)
+module _ (t : Contents) (ok : IsAccepted t) where
+  tokens-up : (c : Class) (now : ℕ) (last : List Instant) → tokens c (suc now) (t .rows) last ≤ tokens c now (t .rows) last + idle c t
+  tokens-up c now last = omega (arith, tokens-rise c now (t .rows) last, law.shares-within t ok c, law.shares-sum c t)
 
-  tokens-full : (c : Class) (now : ℕ) (last : List Instant) → tokens c now (rowsOf t) last ≤ 1000000 * total c t
-  tokens-full c now last = omega (arith, tokens-most c now (rowsOf t) last, law.total-sum c t)
+  tokens-full : (c : Class) (now : ℕ) (last : List Instant) → tokens c now (t .rows) last ≤ D * total c t
+  tokens-full c now last = omega (arith, tokens-most c now (t .rows) last, law.total-sum c t)
 
-  -- one class over a byte-time, in the machine's own terms
-  pub record Class-moved (c : Class) (now : ℕ) (last : List Instant) (cr : ℤ) (q : List Frame) (w : Wire) (u : ℕ) : Type 0 where
-    pub room : ℕ
-    pub kept : KeptBy c t (suc now) last (settled (onWire c t (wireAfter w)) q (earned (onWire c t w) q (idle c t) (send c t) cr)) q (look c t (wireAfter w)) room
-    pub shift : Shift (idle c t) (send c t) (send c t * largest c t) (total c t) (λ j. sizeOf (rowAt t j)) (λ j. bound t (rowAt t j)) (look c t w) u room
+-- ---- a class over a byte-time, in the machine's own terms
+abbrev after : Class → State → ℤ
+after c s = settled (onWire c (s .table) (wireAfter (s .wire))) (queue c s) (earned (onWire c (s .table) (s .wire)) (queue c s) (idle c (s .table)) (send c (s .table)) (credit c s))
 
-  class-moves : (c : Class) (now : ℕ) (last : List Instant) (cr : ℤ) (q : List Frame) (w : Wire) (u : ℕ) → KeptBy c t now last cr q (look c t w) u → Class-moved c now last cr q w u
-  class-moves c now last cr q w u κ =
-      let m =
-      one.byte-passes (idle c t) (send c t) (send c t * largest c t) (total c t) (λ j. sizeOf (rowAt t j)) (λ j. bound t (rowAt t j)) (law.idle-send t ok c) now (tokens c now (rowsOf t) last) (tokens c (suc now) (rowsOf t) last)
-      (tokens-up c now last) (tokens-full c (suc now) last) cr q (look c t w) u κ in
-      record {
-        room = m .room;
-        kept = rw (← look-is c t (wireAfter w), ← look-is c t w, ← look-next c t w) (m .kept);
-        shift = m .shift;
-      }
+record Class-moved (c : Class) (s : State) (u : ℕ) : Type 0 where
+  pub room : ℕ
+  pub ground : Ground (terms c (s .table)) (suc (s .clock)) (after c s) (queue c s) (look c (s .table) (wireAfter (s .wire))) room
+  pub shift : Shift (terms c (s .table)) (look c (s .table) (s .wire)) (queue c s) u room
 
-  abbrev ShiftedA : Line → ℕ → ℕ → Type 0
-  ShiftedA ln u v = ShiftA (idle A t) (send A t) (idle B t) (send B t) (send A t * largest A t) (send B t * largest B t) (blocking A t) (bestSize t) ln u v
+class-moves : (c : Class) (s : State) (u : ℕ) → GroundOf c s u → Class-moved c s u
+class-moves c s u g =
+    let m = byte-grounds (terms c (s .table)) (s .clock) (credit c s) (queue c s) (look c (s .table) (s .wire)) u g in
+    record { room = m .room; ground = rw (← look-is c (s .table) (wireAfter (s .wire)), ← look-is c (s .table) (s .wire), ← look-next c (s .table) (s .wire)) (m .ground); shift = m .shift }
 
-  abbrev ShiftedB : Line → ℕ → ℕ → Type 0
-  ShiftedB ln u v = ShiftB (idle A t) (send A t) (idle B t) (send B t) (send A t * largest A t) (send B t * largest B t) (blocking A t) (bestSize t) ln u v
-
-  abbrev Shifted : Class → Look → ℕ → ℕ → Type 0
-  Shifted c m u v = Shift (idle c t) (send c t) (send c t * largest c t) (total c t) (λ j. sizeOf (rowAt t j)) (λ j. bound t (rowAt t j)) m u v
-
-  shift-a : (w : Wire) (u v : ℕ) → Shifted A (look A t w) u v → ShiftedA (line t w) u v
-  shift-a Free u v h = h
-  shift-a (Sending f l) u v h = go (owner t f) h
+-- ---- both classes
+module _ (t : Contents) (ok : IsAccepted t) where
+  shift-a : (w : Wire) (q : List Frame) (u v : ℕ) → Shift (terms A t) (look A t w) q u v → ShiftA (terms A t) (terms B t) (blocking A t) (bestSize t) (line t w) u v
+  shift-a Free q u v h = earns (terms A t) q u v h
+  shift-a (Sending f l) q u v h = go (owner t f) h
     where
-      go : (o : Owner) → Shifted A (lookBy (owns A o) f l) u v → ShiftedA (lineBy o (f .size) l) u v
-      go (shaped A) h = h
-      go (shaped B) h = h
-      go unshaped h = h
+      go : (o : Owner) → Shift (terms A t) (lookBy (owns A o) f l) q u v → ShiftA (terms A t) (terms B t) (blocking A t) (bestSize t) (lineBy o (f .size) l) u v
+      go (shaped A) h = pays (terms A t) f l q u v h
+      go (shaped B) h = earns (terms A t) q u v h
+      go unshaped h = earns (terms A t) q u v h
 
-  shift-b : (w : Wire) (u v : ℕ) → Shifted B (look B t w) u v → ShiftedB (line t w) u v
-  shift-b Free u v h = h
-  shift-b (Sending f l) u v h = go (owner t f) h
+  shift-b : (w : Wire) (q : List Frame) (u v : ℕ) → Shift (terms B t) (look B t w) q u v → ShiftB (terms A t) (terms B t) (blocking A t) (bestSize t) (line t w) u v
+  shift-b Free q u v h = earns (terms B t) q u v h
+  shift-b (Sending f l) q u v h = go (owner t f) h
     where
-      go : (o : Owner) → Shifted B (lookBy (owns B o) f l) u v → ShiftedB (lineBy o (f .size) l) u v
-      go (shaped A) h = h
-      go (shaped B) h = h
-      go unshaped h = h
-
-  ceilings-move : (w : Wire) (ua ub va vb : ℕ) → Ceiled t (line t w) ua ub → Idled t (line t w) ua ub → Shifted A (look A t w) ua va → Shifted B (look B t w) ub vb → Ceiled t (line t (wireAfter w)) va vb
-  ceilings-move w ua ub va vb c rests a b =
-      rw (← line-next t w)
-      (both.byte-passes (idle A t) (send A t) (idle B t) (send B t) (send A t * largest A t) (send B t * largest B t) (blocking A t) (bestSize t) (law.idle-send t ok A) (b-below t ok) (a-below t ok) (ha-some t ok) (lc-some t ok)
-      (line t w) ua ub va vb c rests (shift-a w ua va a) (shift-b w ub vb b))
+      go : (o : Owner) → Shift (terms B t) (lookBy (owns B o) f l) q u v → ShiftB (terms A t) (terms B t) (blocking A t) (bestSize t) (lineBy o (f .size) l) u v
+      go (shaped A) h = earns (terms B t) q u v h
+      go (shaped B) h = pays (terms B t) f l q u v h
+      go unshaped h = earns (terms B t) q u v h
 
 -- ---- frames, a byte-time later
-best-later : (t : Table) (now : ℕ) (q : List Frame) → All (BestFrame t now) q → All (BestFrame t (suc now)) q
+best-later : (t : Contents) (now : ℕ) (q : List Frame) → All (BestFrame t now) q → All (BestFrame t (suc now)) q
 best-later t now [] p = tt
 best-later t now (f ∷ q) p = (record { mark = p .0 .mark; least = p .0 .least; most = p .0 .most; past = omega (arith, p .0 .past) }, best-later t now q (p .1))
 
@@ -98,15 +83,21 @@ later now [] p = tt
 later now (never ∷ is) p = later now is p
 later now (at k ∷ is) p = (omega (arith, p .0), later now is (p .1))
 
-wire-later : (t : Table) (now : ℕ) (last : List Instant) (w : Wire) → OnTheWire t now last w → OnTheWire t (suc now) last (wireAfter w)
-wire-later t now last Free p = tt
-wire-later t now last (Sending f zero) p = tt
-wire-later t now last (Sending f (suc zero)) p = tt
-wire-later t now last (Sending f (suc (suc l))) p = go (owner t f) p
+wire-later : (t : Contents) (now : ℕ) (w : Wire) → OnTheWire t now w → OnTheWire t (suc now) (wireAfter w)
+wire-later t now Free p = tt
+wire-later t now (Sending f zero) p = tt
+wire-later t now (Sending f (suc zero)) p = tt
+wire-later t now (Sending f (suc (suc l))) p = go (owner t f) p
   where
-    go : (o : Owner) → WireFrame o t now last f (suc (suc l)) → WireFrame o t (suc now) last f (suc l)
+    go : (o : Owner) → WireFrame o t now f (suc (suc l)) → WireFrame o t (suc now) f (suc l)
     go (shaped c) r = r
     go unshaped r = (record { mark = r .0 .mark; least = r .0 .least; most = r .0 .most; past = omega (arith, r .0 .past) }, omega arith, omega (arith, r .2))
+
+latest-later : (t : Contents) (last : List Instant) (w : Wire) → LatestOn t last w → LatestOn t last (wireAfter w)
+latest-later t last Free p = tt
+latest-later t last (Sending f zero) p = tt
+latest-later t last (Sending f (suc zero)) p = tt
+latest-later t last (Sending f (suc (suc l))) p = p
 
 fewer : (k : ℕ) (w : Wire) → sending k (wireAfter w) ≤ sending k w
 fewer k Free = omega arith
@@ -114,53 +105,84 @@ fewer k (Sending f zero) = omega arith
 fewer k (Sending f (suc zero)) = omega arith
 fewer k (Sending f (suc (suc l))) = omega arith
 
--- steps 2, 3 and 4
-pub byte-keeps : (s : State) (ua ub : ℕ) → s .clock < lastClock → Started s ua ub → Holds (settle (pass (earn s)))
-byte-keeps s ua ub h st =
-    let i = st .inv in
-    let t = s .table in
-    let ok = i .accepted in
-    let a = class-moves t ok A (s .clock) (s .last) (s .credita) (s .a) (s .wire) ua (i .class-a) in
-    let b = class-moves t ok B (s .clock) (s .last) (s .creditb) (s .b) (s .wire) ub (i .class-b) in
-    record {
-      ua = a .room;
-      ub = b .room;
-      inv =
-          record {
-            accepted = ok;
-            clock = h;
-            class-a = a .kept;
-            class-b = b .kept;
-            ceilings = ceilings-move t ok (s .wire) ua ub (a .room) (b .room) (i .ceilings) (st .idle) (a .shift) (b .shift);
-            rows-a = i .rows-a;
-            rows-b = i .rows-b;
-            best = best-later t (s .clock) (s .best) (i .best);
-            few = i .few;
-            wire = wire-later t (s .clock) (s .last) (s .wire) (i .wire);
-            single = λ k g. omega (arith, i .single k g, fewer k (s .wire));
-            lasts = i .lasts;
-            none-after = later (s .clock) (s .last) (i .none-after);
-          };
-    }
+-- ---- steps 2, 3 and 4
+module _ (s : State) (u : Class → ℕ) (st : Started s u) where
+  abbrev passed : State
+  passed = settle (pass (earn s))
 
--- line 9 at the last byte: a row's frame that ends is no older than its bound
-pub ended-frame : (w : Wire) (f : Frame) → endedBy w ≡ Reported f → (l : ℕ) × (w ≡ Sending f l)
-ended-frame Free f e = let z : _≡_ {A = ℕ} 0 1 = cc in absurd (omega arith)
-ended-frame (Sending g zero) f e = (0, cc)
-ended-frame (Sending g (suc zero)) f e = (1, cc)
-ended-frame (Sending g (suc (suc l))) f e = let z : _≡_ {A = ℕ} 0 1 = cc in absurd (omega arith)
+  moved : (c : Class) → Class-moved c s (u c)
+  moved c = class-moves c s (u c) (st .inv .always .ground c)
 
-module _ (s : State) (ua ub : ℕ) (i : Inv s ua ub) (f : Frame) (l : ℕ) (w : s .wire ≡ Sending f l) where
-  abbrev SendsBy : Class → Look → Type 0
-  SendsBy c m = Sending-of (idle c (s .table)) (send c (s .table)) (send c (s .table) * largest c (s .table)) (total c (s .table)) (λ j. sizeOf (rowAt (s .table) j)) (λ j. bound (s .table) (rowAt (s .table) j)) (s .clock) m
+  abbrev v : Class → ℕ
+  v c = moved c .room
+
+  byte-always : s .clock < lastClock → Always passed v
+  byte-always h =
+      let p = st .inv .always in
+      record {
+        accepted = p .accepted;
+        clock = h;
+        ground = each (λ c. GroundOf c passed (v c)) (moved A .ground) (moved B .ground);
+        frames = record { rows = each (λ c. All (RowFrame c (s .table)) (queue c passed)) (p .frames .rows A) (p .frames .rows B); best = best-later (s .table) (s .clock) (s .best) (p .frames .best); few = p .frames .few; wire = wire-later (s .table) (s .clock) (s .wire) (p .frames .wire) };
+        instants = record { lasts = p .instants .lasts; none-after = later (s .clock) (s .last) (p .instants .none-after) };
+      }
+
+  class-kept : (c : Class) → Kept (terms c (s .table)) (suc (s .clock)) (tokens c (suc (s .clock)) (s .table .rows) (s .last)) (queue c s) (look c (s .table) (wireAfter (s .wire))) (v c)
+  class-kept c =
+      let ok = st .inv .always .accepted in
+      rw (← look-next c (s .table) (s .wire))
+      (one.byte-passes (terms c (s .table)) (law.idle-send (s .table) ok c) (s .clock) _ _ (tokens-up (s .table) ok c (s .clock) (s .last)) (tokens-full (s .table) ok c (suc (s .clock)) (s .last)) (credit c s) (queue c s) (look c (s .table) (s .wire)) (u c) (v c) (st .inv .always .ground c) (moved c .shift) (st .inv .timed .kept c))
+
+  byte-timed : Timed passed v
+  unfolding held
+  byte-timed =
+      let ok = st .inv .always .accepted in
+      let p = st .inv .timed .rows in
+      record {
+        rows =
+            record {
+              few = λ k g. le-trans (omega (arith, fewer k (s .wire))) (p .few k g);
+              latest = each (λ c. All _ (queue c passed)) (p .latest A) (p .latest B);
+              latest-wire = latest-later (s .table) (s .last) (s .wire) (p .latest-wire);
+            };
+        kept = each (λ c. KeptOf c passed (v c)) (class-kept A) (class-kept B);
+        ceilings =
+            rw (← line-next (s .table) (s .wire))
+            (both.byte-passes (terms A (s .table)) (terms B (s .table)) (blocking A (s .table)) (bestSize (s .table)) (room (s .table) ok) (line (s .table) (s .wire)) (u A) (u B) (v A) (v B) (st .inv .timed .ceilings) (st .idle) (shift-a (s .table) ok (s .wire) (s .a) (u A) (v A) (moved A .shift)) (shift-b (s .table) ok (s .wire) (s .b) (u B) (v B) (moved B .shift)));
+      }
+
+  pub byte-keeps : s .clock < lastClock → Holds passed
+  byte-keeps h = record { u = v; inv = record { always = byte-always h; timed = byte-timed } }
+
+-- ---- line 9 at the report: a row's frame that is reported is no older than its bound
+pub reported-frame : (w : Wire) (f : Frame) → reportedIn w ≡ Reported f → w ≡ Sending f (suc leftAtReport)
+unfolding reportedIn
+reported-frame Free f e = let z : _≡_ {A = ℕ} 0 1 = cc in absurd (omega arith)
+reported-frame (Sending g l) f e = go (eqb l (suc leftAtReport)) refl e
+  where
+    go : (b : Bool) → eqb l (suc leftAtReport) ≡ b → cond b (Reported g) Nothing ≡ Reported f → Sending g l ≡ Sending f (suc leftAtReport)
+    go true q p = let same : g ≡ f = cc in rw (same, eqb-true l (suc leftAtReport) q) refl
+    go false q p = let z : _≡_ {A = ℕ} 0 1 = cc in absurd (omega arith)
+
+module _ (s : State) (u : Class → ℕ) (i : Inv s u) (f : Frame) (l : ℕ) (w : s .wire ≡ Sending f l) where
+  sends-look : (c : Class) → owner (s .table) f ≡ shaped c → Sending-of (terms c (s .table)) (s .clock) (lookBy (owns c (shaped c)) f l)
+  sends-look c own = subst (λ (o : Owner). Sending-of (terms c (s .table)) (s .clock) (lookBy (owns c o) f l)) own (subst (λ (x : Wire). Sending-of (terms c (s .table)) (s .clock) (look c (s .table) x)) w (i .always .ground c .sends))
+
+  due-look : (c : Class) → owner (s .table) f ≡ shaped c → Due (terms c (s .table)) (s .clock) (lookBy (owns c (shaped c)) f l)
+  due-look c own = subst (λ (o : Owner). Due (terms c (s .table)) (s .clock) (lookBy (owns c o) f l)) own (subst (λ (x : Wire). Due (terms c (s .table)) (s .clock) (look c (s .table) x)) w (i .timed .kept c .due))
 
   -- what holds of a row's frame on the wire
-  pub row-sends : (c : Class) → owner (s .table) f ≡ shaped c → SendsBy c (mine f l)
-  row-sends A own = rw (w, own) at (i .class-a .sends)
-  row-sends B own = rw (w, own) at (i .class-b .sends)
+  pub row-sends : (c : Class) → owner (s .table) f ≡ shaped c → Sends (terms c (s .table)) (s .clock) f l
+  row-sends A own = sends-look A own
+  row-sends B own = sends-look B own
 
-pub ends-in-time : (s : State) (ua ub : ℕ) → Inv s ua ub → (f : Frame) → endedBy (s .wire) ≡ Reported f → f .source < length (rowsOf (s .table)) → suc (s .clock) ≤ f .taken + bound (s .table) (rowAt (s .table) (f .source))
-ends-in-time s ua ub i f e h =
-    let (l, w) = ended-frame (s .wire) f e in
-    let r = row-sends s ua ub i f l w (rowAt (s .table) (f .source) .class) (named-owner (s .table) f h) in
-    omega (arith, r .past, r .some, r .sending)
+  pub row-due : (c : Class) → owner (s .table) f ≡ shaped c → (s .clock - f .taken) + l ≤ residence (s .table) (rowAt (s .table) (f .source))
+  row-due A own = due-look A own
+  row-due B own = due-look B own
+
+pub ends-in-time : (s : State) (u : Class → ℕ) → Inv s u → (f : Frame) → reportedIn (s .wire) ≡ Reported f → InUse (s .table) (f .source) → suc (s .clock) ≤ f .taken + bound (s .table) (rowAt (s .table) (f .source))
+ends-in-time s u i f e h =
+    let w = reported-frame (s .wire) f e in
+    let own = named-owner (s .table) f h in
+    let r = row-sends s u i f (suc leftAtReport) w (rowAt (s .table) (f .source) .class) own in
+    omega (arith, r .past, row-due s u i f (suc leftAtReport) w (rowAt (s .table) (f .source) .class) own, law.bound-report (s .table) (rowAt (s .table) (f .source)))

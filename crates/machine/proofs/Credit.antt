@@ -1,5 +1,5 @@
 -- The signed credit. Headroom is the credit above its floor −k, a natural number: these are all the laws of signs that the proof needs.
-use Prim.Native.Nat.{ℕ, zero, suc, _+_, _-_, _≤_, _<_}
+use Prim.Native.Nat.{ℕ, zero, suc, _+_, _-_, _≤_}
 use mathlib.Core.Bool.{Bool, true, false, cond}
 use mathlib.Core.List.{List, [], _∷_}
 use mathlib.Core.Path.{_≡_, refl}
@@ -45,10 +45,10 @@ pub capped : (c : ℤ) (u k : ℕ) → Headroom u c k → Lowered (upToZero c) u
 capped (pos n) u k h = record { room = k; head = omega arith; below = omega arith; rests = omega arith }
 capped (negsuc n) u k h = record { room = u; head = h; below = omega arith; rests = omega arith }
 
--- a credit at rest that rises, and then settles
-pub rises : (c : ℤ) (u k i : ℕ) → u ≤ k → Headroom u c k → Lowered (upToZero (rise c i)) (u + i) k
-rises (pos n) u k i r h = record { room = k; head = omega arith; below = omega arith; rests = omega arith }
-rises (negsuc n) u k i r h =
+-- a credit that rises, but not above 0, and then settles
+pub rises : (c : ℤ) (u k i : ℕ) → Headroom u c k → Lowered (upToZero (rise c i)) (u + i) k
+rises (pos n) u k i h = record { room = k; head = omega arith; below = omega arith; rests = omega arith }
+rises (negsuc n) u k i h =
     let one = capped (negsuc n +ℤ pos i) (u + i) k (gains (negsuc n) u k i h) in
     let two = capped (upToZero (negsuc n +ℤ pos i)) (one .room) k (one .head) in
     record { room = two .room; head = two .head; below = omega arith; rests = two .rests }

@@ -1,45 +1,53 @@
 -- The fresh port of an accepted table keeps the invariant.
-use Prim.Native.Nat.{ℕ, zero, suc, _+_, _*_, _≤_, _<_}
+use Prim.Native.Nat.{ℕ, zero, suc, _*_}
 use mathlib.Core.List.{[]}
-use mathlib.Core.Path.{_≡_, refl}
 use native.Mathlib.Nat.{le-refl}
 use native.Mathlib.Omega.{arith}
 use lib.IntN.{pos}
 use lib.ListN.{length, replicate, length-replicate}
-use Rattle.planner.specs.declared.Class.{Class}
-use Rattle.planner.specs.declared.Class.the-variants.{A, B}
-use Rattle.planner.specs.declared.Table.{Table}
-use Rattle.planner.specs.Rows.{rowsOf, largest, send}
+use Rattle.table.specs.declared.Class.{Class}
+use Rattle.table.specs.declared.Class.the-variants.{A, B}
+use Rattle.table.specs.Rows.{Contents}
+use Rattle.planner.specs.Sums.{largest, send}
 use Rattle.planner.specs.Opening.{IsAccepted}
 use Rattle.planner.proofs.Laws as law
-use Rattle.machine.specs.State.{Instant, never, fresh}
-use Rattle.machine.proofs.Tokens.{tokens-most}
-use Rattle.machine.proofs.OneClass.{other}
-use Rattle.machine.proofs.Invariant.{NoneAfter, KeptBy, Inv}
+use Rattle.machine.specs.State.{never, queue, fresh}
+use Rattle.machine.specs.Record.{held}
+use Rattle.machine.proofs.Tokens.{tokens, tokens-most}
+use Rattle.machine.proofs.OneClass.{other, All, Ground, Kept}
+use Rattle.machine.proofs.Invariant.{RowFrame, Latest, NoneAfter, terms, GroundOf, KeptOf, Inv, each}
 
 none-after : (n : ℕ) → NoneAfter 0 (replicate n never)
 none-after zero = tt
 none-after (suc n) = none-after n
 
-module _ (t : Table) (ok : IsAccepted t) where
-  class-kept : (c : Class) → KeptBy c t 0 (replicate (length (rowsOf t)) never) (pos 0) [] other (send c t * largest c t)
-  class-kept c = record { head = omega arith; floor = tt; rest = le-refl _; past = tt; sends = tt; arrivals = omega (arith, tokens-most c 0 (rowsOf t) (replicate (length (rowsOf t)) never), law.total-sum c t); waiting = tt }
+module _ (t : Contents) (ok : IsAccepted t) where
+  -- credit 0: headroom is the floor
+  abbrev pub rest : Class → ℕ
+  rest c = send c t * largest c t
 
-  pub fresh-kept : Inv (fresh t) (send A t * largest A t) (send B t * largest B t)
-  unfolding fresh
+  class-ground : (c : Class) → Ground (terms c t) 0 (pos 0) [] other (rest c)
+  class-ground c = record { head = omega arith; floor = tt; past = tt; sends = tt }
+
+  class-kept : (c : Class) → Kept (terms c t) 0 (tokens c 0 (t .rows) (replicate (length (t .rows)) never)) [] other (rest c)
+  class-kept c = record { rest = le-refl _; arrivals = omega (arith, tokens-most c 0 (t .rows) (replicate (length (t .rows)) never), law.total-sum c t); waiting = tt; due = tt }
+
+  pub fresh-kept : Inv (fresh t) rest
+  unfolding fresh held
   fresh-kept =
       record {
-        accepted = ok;
-        clock = omega arith;
-        class-a = class-kept A;
-        class-b = class-kept B;
-        ceilings = record { ceiling = omega arith; behind = tt; potential = omega arith; behind-best = tt };
-        rows-a = tt;
-        rows-b = tt;
-        best = tt;
-        few = omega arith;
-        wire = tt;
-        single = λ k h. omega arith;
-        lasts = length-replicate (length (rowsOf t)) never;
-        none-after = none-after (length (rowsOf t));
+        always =
+            record {
+              accepted = ok;
+              clock = omega arith;
+              ground = each (λ c. GroundOf c (fresh t) (rest c)) (class-ground A) (class-ground B);
+              frames = record { rows = each (λ c. All (RowFrame c t) (queue c (fresh t))) tt tt; best = tt; few = omega arith; wire = tt };
+              instants = record { lasts = length-replicate (length (t .rows)) never; none-after = none-after (length (t .rows)) };
+            };
+        timed =
+            record {
+              rows = record { few = λ k h. omega arith; latest = each (λ c. All (Latest (fresh t .last)) (queue c (fresh t))) tt tt; latest-wire = tt };
+              kept = each (λ c. KeptOf c (fresh t) (rest c)) (class-kept A) (class-kept B);
+              ceilings = record { ceiling = omega arith; behind = tt; potential = omega arith; behind-best = tt };
+            };
       }

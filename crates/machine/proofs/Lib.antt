@@ -8,12 +8,14 @@ mod Start
 mod Byte
 mod Age
 mod Offers
-mod Soundness
-mod Space
-pub mod FromSound
 mod Fresh
+mod Space
+mod Soundness
+pub mod FromSound
 mod Advances
 mod Conservation
 mod Trace
 mod Lists
 pub mod Theorem
+pub mod Answers
+pub mod Places

@@ -1,22 +1,22 @@
 -- What holds along a list of calls, by induction on the list: the invariant, the clock, the last instants, conservation, once, in time.
-use Prim.Native.Nat.{ℕ, zero, suc, _+_, _-_, _≤_, _<_}
-use mathlib.Core.Bool.{Bool, true, false, cond, _&&_}
+use Prim.Native.Nat.{ℕ, _+_, _-_, _≤_, _<_}
+use mathlib.Core.Bool.{Bool, true, false, _&&_}
 use mathlib.Core.List.{List, [], _∷_}
 use mathlib.Core.Logic.{⊎-elim}
-use mathlib.Core.Path.{_≡_, refl, sym, _∙_, ap, subst}
-use native.Mathlib.Nat.{zero-add, add-zero, add-comm, eq-zero-or-pos, le-refl}
+use mathlib.Core.Path.{_≡_, refl, sym, _∙_, ap}
+use native.Mathlib.Nat.{zero-add, add-comm, eq-zero-or-pos}
 use native.Mathlib.Omega.{arith}
-use lib.Dec.{eqb, ltb}
-use lib.ListN.{length, getD, set, replicate, getD-replicate}
+use lib.Dec.{eqb}
+use lib.ListN.{length, getD, set, getD-replicate}
 use lib.Seq.{getD-set-same, getD-set-other}
-use borrow.Author.Tests.{eqb-true, eqb-false, eq-eqb, ne-eqb, ltb-false}
-use Rattle.planner.specs.declared.Class.{Class}
-use Rattle.planner.specs.declared.Class.the-variants.{A, B}
-use Rattle.planner.specs.declared.Table.{Table}
-use Rattle.planner.specs.Wire.{sizeFor, periodOf}
-use Rattle.planner.specs.Rows.{rowsOf, rowAt}
-use Rattle.planner.specs.Bound.{bound}
+use borrow.Author.Tests.{eqb-true, eqb-false, ne-eqb, ltb-false}
+use Rattle.table.specs.declared.Class.{Class}
+use Rattle.table.specs.declared.Class.the-variants.{A, B}
+use Rattle.table.specs.Limits.{leastSize, leastPeriod}
+use Rattle.table.specs.Wire.{sizeFor, periodOf}
+use Rattle.table.specs.Rows.{Contents, rowAt, InUse}
 use Rattle.planner.specs.Opening.{IsAccepted}
+use Rattle.table.proofs.Laws as table
 use Rattle.planner.proofs.Laws as law
 use Rattle.machine.specs.declared.Frame.{Frame}
 use Rattle.machine.specs.declared.Ended.{Ended}
@@ -24,40 +24,29 @@ use Rattle.machine.specs.declared.Ended.the-variants.{Reported, Nothing}
 use Rattle.machine.specs.State.{Instant, never, at, State, fresh}
 use Rattle.machine.specs.Time.{progress}
 use Rattle.machine.specs.Record.{count}
-use Rattle.machine.specs.Calls.{Call, offer, offerBest, advance, Answer, taken, passed, denied, tooSoon, early, rowFrame, joined, takeRow, bestFrame, takeBest}
+use Rattle.machine.specs.Calls.{Call, offer, offerBest, advance, Answer, taken, passed, denied, tooSoon, early, rowFrame, takeRow, bestFrame, takeBest}
 use Rattle.machine.specs.Run.{Event, event, clockOf, lastTaken, newest, named, reportedBy, reports}
-use Rattle.machine.proofs.Invariant.{Inv, Holds}
+use Rattle.machine.proofs.OneClass.{All}
+use Rattle.machine.proofs.Invariant.{RowFrame, BestFrame, Holds}
 use Rattle.machine.proofs.Offers as offers
-use Rattle.machine.proofs.Fresh.{fresh-kept}
-use Rattle.machine.proofs.Advances.{Reached, advances}
-use Rattle.machine.proofs.Conservation.{inPort, ended, advance-keeps, row-adds, best-adds}
+use Rattle.machine.proofs.Fresh.{rest, fresh-kept}
+use Rattle.machine.proofs.Advances.{advances}
+use Rattle.machine.proofs.Conservation.{Large, inPort, ended, advance-keeps, row-adds, best-adds}
 use Rattle.machine.proofs.Trace.{Step, row-taken, best-taken, advanced, refusal, Trace, start, step}
 
 -- ---- what an offer to a row leaves
-joined-table : (c : Class) (f : Frame) (s : State) → joined c f s .table ≡ s .table
-joined-table A f s = refl
-joined-table B f s = refl
-
-joined-clock : (c : Class) (f : Frame) (s : State) → joined c f s .clock ≡ s .clock
-joined-clock A f s = refl
-joined-clock B f s = refl
-
-joined-last : (c : Class) (f : Frame) (s : State) → joined c f s .last ≡ set (s .last) (f .source) (at (f .taken))
-joined-last A f s = refl
-joined-last B f s = refl
-
 module _ (k p : ℕ) (s : State) where
   row-table : takeRow k p s .table ≡ s .table
   unfolding takeRow
-  row-table = joined-table (rowAt (s .table) k .class) (rowFrame s k p) s
+  row-table = refl
 
   row-clock : takeRow k p s .clock ≡ s .clock
   unfolding takeRow
-  row-clock = joined-clock (rowAt (s .table) k .class) (rowFrame s k p) s
+  row-clock = refl
 
   row-last : takeRow k p s .last ≡ set (s .last) k (at (s .clock))
   unfolding takeRow
-  row-last = joined-last (rowAt (s .table) k .class) (rowFrame s k p) s
+  row-last = refl
 
 module _ (p : ℕ) (s : State) where
   best-table : takeBest p s .table ≡ s .table
@@ -73,11 +62,11 @@ module _ (p : ℕ) (s : State) where
   best-last = refl
 
 -- ---- the port along a list
-pub record Along (t : Table) (es : List Event) (s : State) : Type 0 where
+pub record Along (t : Contents) (es : List Event) (s : State) : Type 0 where
   pub holds : Holds s
   pub table : s .table ≡ t
   pub clock : s .clock ≡ clockOf es
-  pub lasts : (k : ℕ) → k < length (rowsOf t) → getD (s .last) k never ≡ lastTaken k es
+  pub lasts : (k : ℕ) → InUse t k → getD (s .last) k never ≡ lastTaken k es
 
 -- a row's instant after an offer to row k
 set-newest : (last : List Instant) (k j now : ℕ) (i : Instant) → k < length last → getD last j never ≡ i → getD (set last k (at now)) j never ≡ newest (eqb k j) now i
@@ -87,30 +76,30 @@ set-newest last k j now i h e = go (eqb k j) refl
     go true q = rw (← eqb-true k j q) (getD-set-same last k (at now) never h)
     go false q = getD-set-other last k j (at now) never (λ z. eqb-false k j q (sym z)) ∙ e
 
-fresh-table : (t : Table) → fresh t .table ≡ t
+fresh-table : (t : Contents) → fresh t .table ≡ t
 unfolding fresh
 fresh-table t = refl
 
-fresh-clock : (t : Table) → fresh t .clock ≡ 0
+fresh-clock : (t : Contents) → fresh t .clock ≡ 0
 unfolding fresh
 fresh-clock t = refl
 
-fresh-last : (t : Table) (k : ℕ) → k < length (rowsOf t) → getD (fresh t .last) k never ≡ never
+fresh-last : (t : Contents) (k : ℕ) → InUse t k → getD (fresh t .last) k never ≡ never
 unfolding fresh
-fresh-last t k h = getD-replicate (length (rowsOf t)) k never never h
+fresh-last t k h = getD-replicate (length (t .rows)) k never never (h .below)
 
-module _ (t : Table) (ok : IsAccepted t) where
+module _ (t : Contents) (ok : IsAccepted t) where
   step-along : {es : List Event} {s r : State} {c : Call} {a : Answer} → Along t es s → Step s c a r → Along t (event c a ∷ es) r
   step-along {es} {s} w (row-taken k p h pays late) =
       record {
-        holds = record { ua = w .holds .ua; ub = w .holds .ub; inv = offers.row-taken s (w .holds .ua) (w .holds .ub) (w .holds .inv) k p h pays late };
+        holds = record { u = w .holds .u; inv = offers.row-taken s (w .holds .u) (w .holds .inv) k p h pays late };
         table = row-table k p s ∙ w .table;
         clock = row-clock k p s ∙ w .clock ∙ sym (zero-add (clockOf es));
-        lasts = λ j g. rw (row-last k p s, ← w .clock) (set-newest (s .last) k j (s .clock) (lastTaken j es) (rw (w .holds .inv .lasts) h) (w .lasts j g));
+        lasts = λ j g. rw (row-last k p s, ← w .clock) (set-newest (s .last) k j (s .clock) (lastTaken j es) (rw (w .holds .inv .always .instants .lasts) (h .below)) (w .lasts j g));
       }
   step-along {es} {s} w (best-taken p pays room) =
       record {
-        holds = record { ua = w .holds .ua; ub = w .holds .ub; inv = offers.best-taken s (w .holds .ua) (w .holds .ub) (w .holds .inv) p pays room };
+        holds = record { u = w .holds .u; inv = offers.best-taken s (w .holds .u) (w .holds .inv) p pays room };
         table = best-table p s ∙ w .table;
         clock = best-clock p s ∙ w .clock ∙ sym (zero-add (clockOf es));
         lasts = λ j g. rw (best-last p s) (w .lasts j g);
@@ -128,11 +117,24 @@ module _ (t : Table) (ok : IsAccepted t) where
   step-along {es} {s} w (refusal (advance m) n l h q) = record { holds = w .holds; table = w .table; clock = w .clock ∙ sym (zero-add (clockOf es)); lasts = w .lasts }
 
   pub along : {es : List Event} {s : State} → Trace t es s → Along t es s
-  along start = record { holds = record { ua = _; ub = _; inv = fresh-kept t ok }; table = fresh-table t; clock = fresh-clock t; lasts = fresh-last t }
+  along start = record { holds = record { u = rest t ok; inv = fresh-kept t ok }; table = fresh-table t; clock = fresh-clock t; lasts = fresh-last t }
   along (step w q) = step-along (along w) q
 
--- ---- conservation: taken = in the port + reported
-module _ (t : Table) (row inst size : ℕ) where
+-- ---- conservation: taken = in the port and not reported + reported
+row-sizes : (c : Class) (t : Contents) (q : List Frame) → All (RowFrame c t) q → All (λ f. leastSize ≤ f .size) q
+row-sizes c t [] p = tt
+row-sizes c t (f ∷ q) p = (p .0 .least, row-sizes c t q (p .1))
+
+best-sizes : (t : Contents) (now : ℕ) (q : List Frame) → All (BestFrame t now) q → All (λ f. leastSize ≤ f .size) q
+best-sizes t now [] p = tt
+best-sizes t now (f ∷ q) p = (p .0 .least, best-sizes t now q (p .1))
+
+large-of : {s : State} → Holds s → Large s
+large-of {s} h =
+    let f = h .inv .always .frames in
+    record { a = row-sizes A (s .table) (s .a) (f .rows A); b = row-sizes B (s .table) (s .b) (f .rows B); best = best-sizes (s .table) (s .clock) (s .best) (f .best) }
+
+module _ (t : Contents) (row inst size : ℕ) where
   abbrev pub takes : List Event → ℕ
   takes [] = 0
   takes (event (offer k p) taken ∷ es) = count (named row inst size (record { source = k; size = sizeFor (rowAt t k) p; taken = clockOf es })) + takes es
@@ -151,15 +153,16 @@ module _ (t : Table) (row inst size : ℕ) where
   not-best : (f : Frame) → row < 32 → f .source ≡ 32 → count (named row inst size f) ≡ 0
   not-best f h e = rw (ne-eqb (f .source) row (λ z. omega arith)) refl
 
-  module _ (ok : IsAccepted t) (in-use : row < length (rowsOf t)) where
+  module _ (ok : IsAccepted t) (in-use : InUse t row) where
     step-conserves : {es : List Event} {s r : State} {c : Call} {a : Answer} → Along t es s → takes es ≡ inPort (named row inst size) s + reports row inst size es → Step s c a r → takes (event c a ∷ es) ≡ inPort (named row inst size) r + reports row inst size (event c a ∷ es)
     step-conserves {es} {s} w h (row-taken k p g pays late) =
         let same : count (named row inst size (rowFrame s k p)) ≡ count (named row inst size (record { source = k; size = sizeFor (rowAt t k) p; taken = clockOf es })) = ap (λ (f : Frame). count (named row inst size f)) (same-frame s k p (clockOf es) (w .table) (w .clock)) in
         omega (arith, row-adds (named row inst size) s k p)
     step-conserves {es} {s} w h (best-taken p pays room) =
-        omega (arith, best-adds (named row inst size) s p, not-best (bestFrame s p) (omega (arith, law.rows-most t ok)) refl)
+        omega (arith, best-adds (named row inst size) s p, not-best (bestFrame s p) (omega (arith, in-use .below, law.rows-most t ok)) refl)
     step-conserves {es} {s} w h (advanced n room) =
-        omega (arith, advance-keeps (named row inst size) s n, reported-is (progress n s .passed) (progress n s .ended))
+        let large : (m : ℕ) → m ≤ n → Large (progress m s .state) = λ m g. large-of (advances s m (w .holds) (omega arith) .holds) in
+        omega (arith, advance-keeps (named row inst size) s n large, reported-is (progress n s .passed) (progress n s .ended))
     step-conserves {es} {s} w h (refusal (offer k p) n l g q) = omega arith
     step-conserves {es} {s} w h (refusal (offerBest p) n l g q) = omega arith
     step-conserves {es} {s} w h (refusal (advance m) n l g q) = omega arith
@@ -179,28 +182,24 @@ NotBefore inst (at j) = inst ≤ j
 
 pub named-is : (row inst size : ℕ) (f : Frame) → named row inst size f ≡ true → (f .source ≡ row) × (f .taken ≡ inst) × (f .size ≡ size)
 named-is row inst size f e =
-    let p = and-both (eqb (f .source) row && eqb (f .taken) inst) (eqb (f .size) size) e in
-    let q = and-both (eqb (f .source) row) (eqb (f .taken) inst) (p .0) in
+    let p = table.and-true (eqb (f .source) row && eqb (f .taken) inst) (eqb (f .size) size) e in
+    let q = table.and-true (eqb (f .source) row) (eqb (f .taken) inst) (p .0) in
     (eqb-true _ _ (q .0), eqb-true _ _ (q .1), eqb-true _ _ (p .1))
-  where
-    and-both : (x y : Bool) → (x && y) ≡ true → (x ≡ true) × (y ≡ true)
-    and-both true y h = (refl, h)
-    and-both false y h = let z : _≡_ {A = ℕ} 0 1 = cc in absurd (omega arith)
 
 -- an offer that is not early comes after the last one
-comes-after : (l : Instant) (now period inst : ℕ) → 84 ≤ period → tooSoon l now period ≡ false → NotBefore inst l → inst < now
+comes-after : (l : Instant) (now period inst : ℕ) → leastPeriod ≤ period → tooSoon l now period ≡ false → NotBefore inst l → inst < now
 comes-after never now period inst h e b = absurd b
 comes-after (at j) now period inst h e b = omega (arith, ltb-false (now - j) period e, b)
 
-module _ (t : Table) (ok : IsAccepted t) (row inst size : ℕ) (in-use : row < length (rowsOf t)) where
+module _ (t : Contents) (ok : IsAccepted t) (row inst size : ℕ) (in-use : InUse t row) where
   pub record Once (es : List Event) : Type 0 where
     pub once : takes t row inst size es ≤ 1
     pub seen : 1 ≤ takes t row inst size es → NotBefore inst (lastTaken row es)
 
-  pub not-early : {es : List Event} {s : State} (k : ℕ) → Along t es s → k < length (rowsOf t) → early s k ≡ false → tooSoon (lastTaken k es) (clockOf es) (periodOf (rowAt t k)) ≡ false
+  pub not-early : {es : List Event} {s : State} (k : ℕ) → Along t es s → InUse t k → early s k ≡ false → tooSoon (lastTaken k es) (clockOf es) (periodOf (rowAt t k)) ≡ false
   not-early {es} {s} k w h e = rw (← w .lasts k h, ← w .clock, ← w .table) e
 
-  take-once : {es : List Event} {s : State} (k p : ℕ) → Along t es s → Once es → k < length (rowsOf t) → early s k ≡ false → (b : Bool) → named row inst size (record { source = k; size = sizeFor (rowAt t k) p; taken = clockOf es }) ≡ b → (x : Bool) → eqb k row ≡ x → (count b + takes t row inst size es ≤ 1) × (1 ≤ count b + takes t row inst size es → NotBefore inst (newest x (clockOf es) (lastTaken row es)))
+  take-once : {es : List Event} {s : State} (k p : ℕ) → Along t es s → Once es → InUse t k → early s k ≡ false → (b : Bool) → named row inst size (record { source = k; size = sizeFor (rowAt t k) p; taken = clockOf es }) ≡ b → (x : Bool) → eqb k row ≡ x → (count b + takes t row inst size es ≤ 1) × (1 ≤ count b + takes t row inst size es → NotBefore inst (newest x (clockOf es) (lastTaken row es)))
   take-once {es} {s} k p w o h e true q false x =
       absurd (eqb-false k row x (named-is row inst size (record { source = k; size = sizeFor (rowAt t k) p; taken = clockOf es }) q .0))
   take-once {es} {s} k p w o h e true q true x =

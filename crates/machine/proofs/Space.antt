@@ -2,21 +2,22 @@
 use Prim.Native.Nat.{ℕ, zero, suc, _+_, _≤_, _<_}
 use mathlib.Core.Bool.{Bool, true, false}
 use mathlib.Core.List.{List, [], _∷_}
-use mathlib.Core.Path.{_≡_, refl, sym, _∙_, ap}
+use mathlib.Core.Path.{_≡_, refl, ap}
 use native.Mathlib.Nat.{lt-trans, lt-suc-self}
 use native.Mathlib.Omega.{arith}
 use lib.Dec.{eqb}
 use lib.ListN.{length}
-use borrow.Author.Tests.{eq-eqb, ne-eqb, eqb-true, eqb-false}
-use Rattle.planner.specs.declared.Class.{Class}
-use Rattle.planner.specs.declared.Class.the-variants.{A, B}
-use Rattle.planner.specs.Rows.{rowsOf}
+use borrow.Author.Tests.{ne-eqb, eqb-true, eqb-false}
+use Rattle.table.specs.declared.Class.{Class}
+use Rattle.table.specs.declared.Class.the-variants.{A, B}
+use Rattle.table.specs.Rows.{Contents, InUse}
+use Rattle.planner.specs.Opening.{IsAccepted}
 use Rattle.planner.proofs.Laws as law
 use Rattle.machine.specs.declared.Frame.{Frame}
+use Rattle.machine.specs.Limits.{classPlaces, mostOf}
 use Rattle.machine.specs.State.{State, queue}
-use Rattle.machine.specs.Record.{count, inQueue, sending}
+use Rattle.machine.specs.Record.{count, inQueue, held}
 use Rattle.machine.proofs.OneClass.{All}
-use Rattle.machine.proofs.Invariant.{RowFrame, Inv}
 
 -- the frames of a queue, row by row
 tally : ℕ → List Frame → ℕ
@@ -82,17 +83,26 @@ tally-less (suc n) k q h z one = go (eqb k n) refl (tally-less n k q)
         omega (arith, tally-most n q below)
     go false e rest = omega (arith, rest (omega (arith, eqb-false k n e)) z below, one n (lt-suc-self n))
 
-pub queue-most : (n : ℕ) (q : List Frame) → All (λ f. f .source < n) q → ((k : ℕ) → k < n → inQueue k q ≤ 1) → length q ≤ n
+queue-most : (n : ℕ) (q : List Frame) → All (λ f. f .source < n) q → ((k : ℕ) → k < n → inQueue k q ≤ 1) → length q ≤ n
 queue-most n q names one = omega (arith, tally-all n q names, tally-most n q one)
 
-pub queue-less : (n k : ℕ) (q : List Frame) → All (λ f. f .source < n) q → k < n → inQueue k q ≡ 0 → ((j : ℕ) → j < n → inQueue j q ≤ 1) → length q < n
+queue-less : (n k : ℕ) (q : List Frame) → All (λ f. f .source < n) q → k < n → inQueue k q ≡ 0 → ((j : ℕ) → j < n → inQueue j q ≤ 1) → length q < n
 queue-less n k q names h z one = omega (arith, tally-all n q names, tally-less n k q h z one)
 
--- ---- a port that keeps the invariant
-named : (c : Class) (s : State) (q : List Frame) → All (RowFrame c (s .table) (s .last)) q → All (λ f. f .source < length (rowsOf (s .table))) q
-named c s [] r = tt
-named c s (f ∷ q) r = (r .0 .names, named c s q (r .1))
+below : (t : Contents) (q : List Frame) → All (λ f. InUse t (f .source)) q → All (λ f. f .source < length (t .rows)) q
+below t [] p = tt
+below t (f ∷ q) p = (p .0 .below, below t q (p .1))
 
-pub in-places : (s : State) (ua ub : ℕ) → Inv s ua ub → (c : Class) → length (queue c s) ≤ 32
-in-places s ua ub i A = omega (arith, law.rows-most (s .table) (i .accepted), queue-most (length (rowsOf (s .table))) (s .a) (named A s (s .a) (i .rows-a)) (λ k h. omega (arith, i .single k h)))
-in-places s ua ub i B = omega (arith, law.rows-most (s .table) (i .accepted), queue-most (length (rowsOf (s .table))) (s .b) (named B s (s .b) (i .rows-b)) (λ k h. omega (arith, i .single k h)))
+-- ---- a port whose rows keep to their counts
+module _ (s : State) (ok : IsAccepted (s .table)) (few : (k : ℕ) → InUse (s .table) k → held k s ≤ mostOf (s .table) k) where
+  one-each : (c : Class) (k : ℕ) → k < length (s .table .rows) → inQueue k (queue c s) ≤ 1
+  unfolding mostOf held
+  one-each A k h = omega (arith, few k (record { below = h }))
+  one-each B k h = omega (arith, few k (record { below = h }))
+
+  -- a class queue has no more frames than places, and one less if some row in use has none there
+  pub in-places : (c : Class) → All (λ f. InUse (s .table) (f .source)) (queue c s) → length (queue c s) ≤ classPlaces
+  in-places c names = omega (arith, law.rows-most (s .table) ok, queue-most (length (s .table .rows)) (queue c s) (below (s .table) (queue c s) names) (one-each c))
+
+  pub place-for : (c : Class) (k : ℕ) → All (λ f. InUse (s .table) (f .source)) (queue c s) → InUse (s .table) k → inQueue k (queue c s) ≡ 0 → length (queue c s) < classPlaces
+  place-for c k names h z = omega (arith, law.rows-most (s .table) ok, queue-less (length (s .table .rows)) k (queue c s) (below (s .table) (queue c s) names) (h .below) z (one-each c))

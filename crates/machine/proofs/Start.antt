@@ -1,156 +1,249 @@
 -- A frame starts, or none: step 1 keeps the invariant, and leaves a free wire only where no class has credit above 0.
-use Prim.Native.Nat.{ℕ, zero, suc, _+_, _*_, _≤_, _<_}
+use Prim.Native.Nat.{ℕ, _+_, _*_, _≤_, _<_}
 use mathlib.Core.Bool.{Bool, true, false, cond}
 use mathlib.Core.List.{List, [], _∷_}
-use mathlib.Core.Path.{_≡_, refl, sym, _∙_, ap}
+use mathlib.Core.Path.{_≡_, refl, ap, subst, subst⁻¹}
 use native.Mathlib.Nat.{le-trans}
 use native.Mathlib.Omega.{arith}
 use lib.IntN.{ℤ, pos, negsuc}
 use lib.Dec.{eqb}
-use lib.ListN.{length}
 use borrow.Author.Tests.{ne-eqb}
-use Rattle.planner.specs.declared.Class.{Class}
-use Rattle.planner.specs.declared.Class.the-variants.{A, B}
-use Rattle.planner.specs.declared.Table.{Table}
-use Rattle.planner.specs.Wire.{sizeOf}
-use Rattle.planner.specs.Rows.{rowsOf, rowAt, largest, total, idle, send, bestSize}
-use Rattle.planner.specs.Bound.{blocking, bound}
+use Rattle.table.specs.declared.Class.{Class}
+use Rattle.table.specs.declared.Class.the-variants.{A, B}
+use Rattle.table.specs.Rows.{Contents, sameClass}
+use Rattle.planner.specs.Sums.{largest, idle, send, bestSize}
+use Rattle.planner.specs.Bound.{blocking}
 use Rattle.planner.specs.Opening.{IsAccepted}
 use Rattle.planner.proofs.Laws as law
 use Rattle.machine.specs.declared.Frame.{Frame}
 use Rattle.machine.specs.declared.Wire.{Wire}
 use Rattle.machine.specs.declared.Wire.the-variants.{Free, Sending}
-use Rattle.machine.specs.State.{Instant, State}
-use Rattle.machine.specs.Time.{Owner, shaped, unshaped, owner, ready, sendA, sendB, sendBest, startOn, start}
-use Rattle.machine.specs.Record.{count, inQueue, sending}
+use Rattle.machine.specs.State.{State, credit, queue, instead, withQueue, withBest, withWire}
+use Rattle.machine.specs.Time.{Owner, shaped, unshaped, owner, ready, headOut, behindHead, sendOf, sendBest, startOn, start}
+use Rattle.machine.specs.Record.{count, inQueue, held}
 use Rattle.machine.proofs.Tokens.{tokens}
-use Rattle.machine.proofs.OneClass.{Look, mine, other, Kept, head-goes, head-stays}
-use Rattle.machine.proofs.Both.{Line, free, byA, byB, byBest, starts-a, starts-b, starts-best}
-use Rattle.machine.proofs.Invariant.{look, line, lineBy, RowFrame, BestFrame, KeptBy, Ceiled, Idled, Inv, row-owner, best-owner, row-costs, row-bounded, b-below, a-below, ha-some, lc-some, ceiling, pick}
-
--- a port by its parts, one by one
-abbrev pub mk : Table → ℕ → ℤ → ℤ → List Frame → List Frame → List Frame → List Instant → Wire → State
-mk t now ca cb a b best last w = record { table = t; clock = now; credita = ca; creditb = cb; a = a; b = b; best = best; last = last; wire = w }
+use Rattle.machine.proofs.OneClass.{other, mine, All, Ground, Kept, head-grounds, head-goes, head-stays}
+use Rattle.machine.proofs.Both.{free, starts-a, starts-b, starts-best}
+use Rattle.machine.proofs.Invariant.{lookBy, look, line, lineBy, RowFrame, BestFrame, Latest, terms, GroundOf, KeptOf, Ceiled, Idled, Frames, Rows, Inv, each, row-owner, best-owner, row-within, row-costs, row-bounded, room, ceiling}
 
 -- what a start leaves
-pub record Started (s : State) (ua ub : ℕ) : Type 0 where
-  pub inv : Inv s ua ub
-  pub idle : Idled (s .table) (line (s .table) (s .wire)) ua ub
+pub record Started (s : State) (u : Class → ℕ) : Type 0 where
+  pub inv : Inv s u
+  pub idle : Idled (s .table) (line (s .table) (s .wire)) u
 
 never-empty : (c : ℤ) → ready c [] ≡ true → ⊥
 never-empty (pos n) e = let z : _≡_ {A = ℕ} 0 1 = cc in omega arith
 never-empty (negsuc n) e = let z : _≡_ {A = ℕ} 0 1 = cc in omega arith
 
-busy : (t : Table) (f : Frame) (l ua ub : ℕ) → Idled t (line t (Sending f l)) ua ub
-busy t f l ua ub = go (owner t f)
+busy : (t : Contents) (f : Frame) (l : ℕ) (u : Class → ℕ) → Idled t (line t (Sending f l)) u
+busy t f l u = go (owner t f)
   where
-    go : (o : Owner) → Idled t (lineBy o (f .size) l) ua ub
+    go : (o : Owner) → Idled t (lineBy o (f .size) l) u
     go (shaped A) = tt
     go (shaped B) = tt
     go unshaped = tt
 
--- the head of a class goes out, and what it says of the class that its head stays
-module _ (t : Table) (ok : IsAccepted t) where
-  class-goes : (c : Class) (now : ℕ) (last : List Instant) (cr : ℤ) (f : Frame) (q : List Frame) (u : ℕ) → RowFrame c t last f → KeptBy c t now last cr (f ∷ q) other u → ready cr (f ∷ q) ≡ true → u ≤ idle c t * blocking c t + send c t * largest c t → KeptBy c t now last cr q (mine f (f .size)) u
-  class-goes c now last cr f q u row κ r top =
-      head-goes (idle c t) (send c t) (send c t * largest c t) (total c t) (λ j. sizeOf (rowAt t j)) (λ j. bound t (rowAt t j)) (idle c t * blocking c t) now (tokens c now (rowsOf t) last) cr f q u
-      (row-bounded t ok c last f row) κ r top (omega (arith, row .least)) (row .most) (row-costs t ok c last f row)
+module _ (s : State) (u : Class → ℕ) (i : Inv s u) (no-frame : s .wire ≡ Free) where
+  ok : IsAccepted (s .table)
+  ok = i .always .accepted
 
-  class-stays : (c : Class) (now : ℕ) (last : List Instant) (cr : ℤ) (q : List Frame) (u : ℕ) → KeptBy c t now last cr q other u → ready cr q ≡ false → u ≤ send c t * largest c t
-  class-stays c now last cr q u κ r = head-stays (idle c t) (send c t) (send c t * largest c t) (total c t) (λ j. sizeOf (rowAt t j)) (λ j. bound t (rowAt t j)) cr q u κ r
+  ground : (c : Class) → Ground (terms c (s .table)) (s .clock) (credit c s) (queue c s) other (u c)
+  ground c = subst (λ (w : Wire). Ground (terms c (s .table)) (s .clock) (credit c s) (queue c s) (look c (s .table) w) (u c)) no-frame (i .always .ground c)
 
-  row-within : (c : Class) (last : List Instant) (f : Frame) → RowFrame c t last f → f .size ≤ largest c t
-  row-within c last f row = le-trans (row .most) (rw (row .class) at (law.size-largest t ok (f .source) (row .names)))
+  kept : (c : Class) → Kept (terms c (s .table)) (s .clock) (tokens c (s .clock) (s .table .rows) (s .last)) (queue c s) other (u c)
+  kept c = subst (λ (w : Wire). Kept (terms c (s .table)) (s .clock) (tokens c (s .clock) (s .table .rows) (s .last)) (queue c s) (look c (s .table) w) (u c)) no-frame (i .timed .kept c)
 
-  module _ (ua ub : ℕ) (c : Ceiled t free ua ub) where
-    line-a : (z : ℕ) → 1 ≤ z → Ceiled t (byA z) ua ub
-    line-a = starts-a (idle A t) (send A t) (idle B t) (send B t) (send A t * largest A t) (send B t * largest B t) (blocking A t) (bestSize t) (law.idle-send t ok A) (b-below t ok) (a-below t ok) (ha-some t ok) (lc-some t ok) ua ub c
+  ceilings : Ceiled (s .table) free u
+  ceilings = rw no-frame at (i .timed .ceilings)
 
-    line-b : (z : ℕ) → 1 ≤ z → z ≤ blocking A t → ua ≤ send A t * largest A t → Ceiled t (byB z z) ua ub
-    line-b = starts-b (idle A t) (send A t) (idle B t) (send B t) (send A t * largest A t) (send B t * largest B t) (blocking A t) (bestSize t) (law.idle-send t ok A) (b-below t ok) (a-below t ok) (ha-some t ok) (lc-some t ok) ua ub c
+  -- a class whose head does not go out has no credit above 0
+  stays : (c : Class) → ready (credit c s) (queue c s) ≡ false → u c ≤ send c (s .table) * largest c (s .table)
+  stays c r = head-stays (terms c (s .table)) (s .clock) _ (credit c s) (queue c s) (u c) (ground c) (kept c) r
 
-    line-best : (z : ℕ) → 1 ≤ z → z ≤ blocking A t → z ≤ bestSize t → ua ≤ send A t * largest A t → ub ≤ send B t * largest B t → Ceiled t (byBest z z) ua ub
-    line-best = starts-best (idle A t) (send A t) (idle B t) (send B t) (send A t * largest A t) (send B t * largest B t) (blocking A t) (bestSize t) (law.idle-send t ok A) (b-below t ok) (a-below t ok) (ha-some t ok) (lc-some t ok) ua ub c
+  none-sending : (k : ℕ) → held k s ≡ inQueue k (s .a) + inQueue k (s .b) + 0
+  unfolding held
+  none-sending k = rw no-frame refl
 
-module _ (t : Table) (now : ℕ) (ca cb : ℤ) (last : List Instant) (ua ub : ℕ) where
-  starts-of-a : (f : Frame) (a b best : List Frame) → ready ca (f ∷ a) ≡ true → Inv (mk t now ca cb (f ∷ a) b best last Free) ua ub → Inv (mk t now ca cb a b best last (Sending f (f .size))) ua ub
-  starts-of-a f a b best r i =
-      let ok = i .accepted in
-      let row = i .rows-a .0 in
-      let own = row-owner f row in
-      record {
-        accepted = ok;
-        clock = i .clock;
-        class-a = rw own (class-goes t ok A now last ca f a ua row (i .class-a) r (ceiling t ok A free ua ub (i .ceilings)));
-        class-b = rw own (i .class-b);
-        ceilings = rw own (line-a t ok ua ub (i .ceilings) (f .size) (omega (arith, row .least)));
-        rows-a = i .rows-a .1;
-        rows-b = i .rows-b;
-        best = i .best;
-        few = i .few;
-        wire = rw own row;
-        single = λ k h. omega (arith, i .single k h);
-        lasts = i .lasts;
-        none-after = i .none-after;
-      }
+  -- ---- the head of class c goes out
+  module _ (c : Class) (f : Frame) (q : List Frame) (e : queue c s ≡ f ∷ q) (r : ready (credit c s) (f ∷ q) ≡ true) where
+    row : RowFrame c (s .table) f
+    row = (rw e at (i .always .frames .rows c)) .0
 
-  starts-of-b : (f : Frame) (a b best : List Frame) → ready ca a ≡ false → ready cb (f ∷ b) ≡ true → Inv (mk t now ca cb a (f ∷ b) best last Free) ua ub → Inv (mk t now ca cb a b best last (Sending f (f .size))) ua ub
-  starts-of-b f a b best ra r i =
-      let ok = i .accepted in
-      let row = i .rows-b .0 in
-      let own = row-owner f row in
-      let within = le-trans (row-within t ok B last f row) (law.blocking-a t ok .1) in
-      record {
-        accepted = ok;
-        clock = i .clock;
-        class-a = rw own (i .class-a);
-        class-b = rw own (class-goes t ok B now last cb f b ub row (i .class-b) r (ceiling t ok B free ua ub (i .ceilings)));
-        ceilings = rw own (line-b t ok ua ub (i .ceilings) (f .size) (omega (arith, row .least)) within (class-stays t ok A now last ca a ua (i .class-a) ra));
-        rows-a = i .rows-a;
-        rows-b = i .rows-b .1;
-        best = i .best;
-        few = i .few;
-        wire = rw own row;
-        single = λ k h. omega (arith, i .single k h);
-        lasts = i .lasts;
-        none-after = i .none-after;
-      }
+    abbrev sent : State
+    sent = withWire (Sending f (f .size)) (withQueue c q s)
 
-  starts-of-best : (f : Frame) (a b best : List Frame) → ready ca a ≡ false → ready cb b ≡ false → Inv (mk t now ca cb a b (f ∷ best) last Free) ua ub → Inv (mk t now ca cb a b best last (Sending f (f .size))) ua ub
-  starts-of-best f a b best ra rb i =
-      let ok = i .accepted in
-      let frame = i .best .0 in
-      let own = best-owner ok f frame in
-      record {
-        accepted = ok;
-        clock = i .clock;
-        class-a = rw own (i .class-a);
-        class-b = rw own (i .class-b);
-        ceilings = rw own (line-best t ok ua ub (i .ceilings) (f .size) (omega (arith, frame .least)) (le-trans (frame .most) (law.blocking-a t ok .0)) (frame .most) (class-stays t ok A now last ca a ua (i .class-a) ra) (class-stays t ok B now last cb b ub (i .class-b) rb));
-        rows-a = i .rows-a;
-        rows-b = i .rows-b;
-        best = i .best .1;
-        few = omega (arith, i .few);
-        wire = rw own (frame, omega (arith, frame .least), omega arith);
-        single = λ k h. let none : count (eqb (f .source) k) ≡ 0 = ap count (ne-eqb (f .source) k (λ e. omega (arith, frame .mark, law.rows-most t ok))) in omega (arith, i .single k h);
-        lasts = i .lasts;
-        none-after = i .none-after;
-      }
+    -- the class itself
+    goes-ground : Ground (terms c (s .table)) (s .clock) (credit c s) q (mine f (f .size)) (u c)
+    goes-ground = head-grounds (terms c (s .table)) (s .clock) (credit c s) f q (u c) (rw e at (ground c)) r (omega (arith, row .least)) (row-costs (s .table) ok c f row)
 
-  -- step 1 as a whole
-  on-free : (a b best : List Frame) (x y : Bool) → ready ca a ≡ x → ready cb b ≡ y → Inv (mk t now ca cb a b best last Free) ua ub → Started (cond x (sendA (mk t now ca cb a b best last Free)) (cond y (sendB (mk t now ca cb a b best last Free)) (sendBest (mk t now ca cb a b best last Free)))) ua ub
-  on-free [] b best true y ra rb i = absurd (never-empty ca ra)
-  on-free (f ∷ a) b best true y ra rb i = record { inv = starts-of-a f a b best ra i; idle = busy t f (f .size) ua ub }
-  on-free a [] best false true ra rb i = absurd (never-empty cb rb)
-  on-free a (f ∷ b) best false true ra rb i = record { inv = starts-of-b f a b best ra rb i; idle = busy t f (f .size) ua ub }
-  on-free a b (f ∷ best) false false ra rb i = record { inv = starts-of-best f a b best ra rb i; idle = busy t f (f .size) ua ub }
-  on-free a b [] false false ra rb i =
-      record { inv = i; idle = (class-stays t (i .accepted) A now last ca a ua (i .class-a) ra, class-stays t (i .accepted) B now last cb b ub (i .class-b) rb) }
+    goes-kept : Kept (terms c (s .table)) (s .clock) (tokens c (s .clock) (s .table .rows) (s .last)) q (mine f (f .size)) (u c)
+    goes-kept = head-goes (terms c (s .table)) (idle c (s .table) * blocking c (s .table)) (s .clock) _ f q (u c) (row-bounded (s .table) ok c f row) (rw e at (kept c)) (ceiling (s .table) ok free u ceilings c) (row .most)
 
-  by-wire : (a b best : List Frame) (w : Wire) → Inv (mk t now ca cb a b best last w) ua ub → Started (startOn w (mk t now ca cb a b best last w)) ua ub
-  by-wire a b best Free i = on-free a b best (ready ca a) (ready cb b) refl refl i
-  by-wire a b best (Sending f l) i = record { inv = i; idle = busy t f l ua ub }
+    -- what holds of each waiting frame
+    behind : (P : Frame → Type 0) → All P (queue c s) → All P q
+    behind P p = (rw e at p) .1
 
-pub starts : (s : State) (ua ub : ℕ) → Inv s ua ub → Started (start s) ua ub
+  -- either class
+  ground-after : (c d : Class) (f : Frame) (q : List Frame) → queue c s ≡ f ∷ q → ready (credit c s) (f ∷ q) ≡ true → Ground (terms d (s .table)) (s .clock) (credit d s) (instead c d q (queue d s)) (lookBy (sameClass d c) f (f .size)) (u d)
+  ground-after A A f q e r = goes-ground A f q e r
+  ground-after A B f q e r = ground B
+  ground-after B A f q e r = ground A
+  ground-after B B f q e r = goes-ground B f q e r
+
+  kept-after : (c d : Class) (f : Frame) (q : List Frame) → queue c s ≡ f ∷ q → ready (credit c s) (f ∷ q) ≡ true → Kept (terms d (s .table)) (s .clock) (tokens d (s .clock) (s .table .rows) (s .last)) (instead c d q (queue d s)) (lookBy (sameClass d c) f (f .size)) (u d)
+  kept-after A A f q e r = goes-kept A f q e r
+  kept-after A B f q e r = kept B
+  kept-after B A f q e r = kept A
+  kept-after B B f q e r = goes-kept B f q e r
+
+  all-after : (P : Class → Frame → Type 0) (c d : Class) (f : Frame) (q : List Frame) → queue c s ≡ f ∷ q → ready (credit c s) (f ∷ q) ≡ true → ((x : Class) → All (P x) (queue x s)) → All (P d) (instead c d q (queue d s))
+  all-after P A A f q e r p = behind A f q e r (P A) (p A)
+  all-after P A B f q e r p = p B
+  all-after P B A f q e r p = p A
+  all-after P B B f q e r p = behind B f q e r (P B) (p B)
+
+  -- A's head goes out; or B's, and then A has no credit above 0
+  line-after : (c : Class) (f : Frame) (q : List Frame) → queue c s ≡ f ∷ q → ready (credit c s) (f ∷ q) ≡ true → (sameClass c B ≡ true → ready (s .credita) (s .a) ≡ false) → Ceiled (s .table) (lineBy (shaped c) (f .size) (f .size)) u
+  line-after A f q e r first = starts-a (terms A (s .table)) (terms B (s .table)) (blocking A (s .table)) (bestSize (s .table)) (room (s .table) ok) (u A) (u B) ceilings (f .size) (omega (arith, row A f q e r .least))
+  line-after B f q e r first =
+      let b = row B f q e r in
+      starts-b (terms A (s .table)) (terms B (s .table)) (blocking A (s .table)) (bestSize (s .table)) (room (s .table) ok) (u A) (u B) ceilings (f .size) (omega (arith, b .least)) (le-trans (row-within (s .table) ok B f b) (law.blocking-a (s .table) ok .1)) (stays A (first refl))
+
+  count-after : (c : Class) (f : Frame) (q : List Frame) (k : ℕ) → queue c s ≡ f ∷ q → inQueue k (instead c A q (s .a)) + inQueue k (instead c B q (s .b)) + count (eqb (f .source) k) ≡ inQueue k (s .a) + inQueue k (s .b) + 0
+  count-after A f q k e = rw e (omega arith)
+  count-after B f q k e = rw e (omega arith)
+
+  module _ (c : Class) (f : Frame) (q : List Frame) (e : queue c s ≡ f ∷ q) (r : ready (credit c s) (f ∷ q) ≡ true) (first : sameClass c B ≡ true → ready (s .credita) (s .a) ≡ false) where
+    own : owner (s .table) f ≡ shaped c
+    own = row-owner f (row c f q e r)
+
+    sent-frames : Frames (sent c f q e r)
+    sent-frames =
+        let p = i .always .frames in
+        record {
+          rows = each (λ d. All (RowFrame d (s .table)) (queue d (sent c f q e r))) (all-after (λ d. RowFrame d (s .table)) c A f q e r (p .rows)) (all-after (λ d. RowFrame d (s .table)) c B f q e r (p .rows));
+          best = p .best;
+          few = p .few;
+          wire = rw own (row c f q e r);
+        }
+
+    sent-rows : Rows (sent c f q e r)
+    unfolding held
+    sent-rows =
+        let p = i .timed .rows in
+        record {
+          few = λ k h. rw (count-after c f q k e, ← none-sending k) (p .few k h);
+          latest = each (λ d. All (Latest (s .last)) (queue d (sent c f q e r))) (all-after (λ d. Latest (s .last)) c A f q e r (p .latest)) (all-after (λ d. Latest (s .last)) c B f q e r (p .latest));
+          latest-wire = rw own ((rw e at (p .latest c)) .0);
+        }
+
+    pub class-starts : Started (sent c f q e r) u
+    class-starts =
+        record {
+          inv =
+              record {
+                always =
+                    record {
+                      accepted = ok;
+                      clock = i .always .clock;
+                      ground = each (λ d. GroundOf d (sent c f q e r) (u d)) (rw own (ground-after c A f q e r)) (rw own (ground-after c B f q e r));
+                      frames = sent-frames;
+                      instants = record { lasts = i .always .instants .lasts; none-after = i .always .instants .none-after };
+                    };
+                timed =
+                    record {
+                      rows = sent-rows;
+                      kept = each (λ d. KeptOf d (sent c f q e r) (u d)) (rw own (kept-after c A f q e r)) (rw own (kept-after c B f q e r));
+                      ceilings = rw own (line-after c f q e r first);
+                    };
+              };
+          idle = busy (s .table) f (f .size) u;
+        }
+
+  -- ---- the best-effort head goes out
+  module _ (f : Frame) (q : List Frame) (e : s .best ≡ f ∷ q) (ra : ready (s .credita) (s .a) ≡ false) (rb : ready (s .creditb) (s .b) ≡ false) where
+    frame : BestFrame (s .table) (s .clock) f
+    frame = (rw e at (i .always .frames .best)) .0
+
+    unowned : owner (s .table) f ≡ unshaped
+    unowned = best-owner ok f frame
+
+    abbrev best-sent : State
+    best-sent = withWire (Sending f (f .size)) (withBest q s)
+
+    no-row : (k : ℕ) → k < 32 → count (eqb (f .source) k) ≡ 0
+    no-row k h = ap count (ne-eqb (f .source) k (λ z. omega (arith, frame .mark)))
+
+    best-frames : Frames best-sent
+    best-frames =
+        let p = i .always .frames in
+        record {
+          rows = each (λ d. All (RowFrame d (s .table)) (queue d best-sent)) (p .rows A) (p .rows B);
+          best = (rw e at (p .best)) .1;
+          few = let n = rw e at (p .few) in omega arith;
+          wire = rw unowned (frame, omega (arith, frame .least), omega arith);
+        }
+
+    best-rows : Rows best-sent
+    unfolding held
+    best-rows =
+        let p = i .timed .rows in
+        record {
+          few = λ k h. rw (no-row k (omega (arith, h .below, law.rows-most (s .table) ok)), ← none-sending k) (p .few k h);
+          latest = each (λ d. All (Latest (s .last)) (queue d best-sent)) (p .latest A) (p .latest B);
+          latest-wire = rw unowned tt;
+        }
+
+    pub best-starts : Started best-sent u
+    best-starts =
+        record {
+          inv =
+              record {
+                always =
+                    record {
+                      accepted = ok;
+                      clock = i .always .clock;
+                      ground = each (λ d. GroundOf d best-sent (u d)) (rw unowned (ground A)) (rw unowned (ground B));
+                      frames = best-frames;
+                      instants = record { lasts = i .always .instants .lasts; none-after = i .always .instants .none-after };
+                    };
+                timed =
+                    record {
+                      rows = best-rows;
+                      kept = each (λ d. KeptOf d best-sent (u d)) (rw unowned (kept A)) (rw unowned (kept B));
+                      ceilings = rw unowned (starts-best (terms A (s .table)) (terms B (s .table)) (blocking A (s .table)) (bestSize (s .table)) (room (s .table) ok) (u A) (u B) ceilings (f .size) (omega (arith, frame .least)) (le-trans (frame .most) (law.blocking-a (s .table) ok .0)) (frame .most) (stays A ra) (stays B rb));
+                    };
+              };
+          idle = busy (s .table) f (f .size) u;
+        }
+
+  -- ---- step 1 on a free wire
+  class-out : (c : Class) (q : List Frame) → queue c s ≡ q → ready (credit c s) q ≡ true → (sameClass c B ≡ true → ready (s .credita) (s .a) ≡ false) → Started (sendOf c s) u
+  class-out c [] e r first = absurd (never-empty (credit c s) r)
+  class-out c (f ∷ q) e r first = rw e (class-starts c f q e r first)
+
+  nothing-out : s .best ≡ [] → sendBest s ≡ s
+  nothing-out e =
+      let left : behindHead (s .best) ≡ s .best = rw e refl in
+      let idle : headOut (s .best) ≡ s .wire = rw (e, no-frame) refl in
+      λ j. withWire (idle j) (withBest (left j) s)
+
+  best-out : (q : List Frame) → s .best ≡ q → ready (s .credita) (s .a) ≡ false → ready (s .creditb) (s .b) ≡ false → Started (sendBest s) u
+  best-out [] e ra rb = subst⁻¹ (λ (r : State). Started r u) (nothing-out e) (record { inv = i; idle = subst⁻¹ (λ (w : Wire). Idled (s .table) (line (s .table) w) u) no-frame (stays A ra, stays B rb) })
+  best-out (f ∷ q) e ra rb = rw e (best-starts f q e ra rb)
+
+  not-b : {X : Type 0} → sameClass A B ≡ true → X
+  not-b e = let z : _≡_ {A = ℕ} 0 1 = cc in absurd (omega arith)
+
+  on-free : (x y : Bool) → ready (s .credita) (s .a) ≡ x → ready (s .creditb) (s .b) ≡ y → Started (cond x (sendOf A s) (cond y (sendOf B s) (sendBest s))) u
+  on-free true y ra rb = class-out A (s .a) refl ra not-b
+  on-free false true ra rb = class-out B (s .b) refl rb (λ e. ra)
+  on-free false false ra rb = best-out (s .best) refl ra rb
+
+pub starts : (s : State) (u : Class → ℕ) → Inv s u → Started (start s) u
 unfolding start
-starts s ua ub i = by-wire (s .table) (s .clock) (s .credita) (s .creditb) (s .last) ua ub (s .a) (s .b) (s .best) (s .wire) i
+starts s u i = by-wire (s .wire) refl
+  where
+    by-wire : (w : Wire) → s .wire ≡ w → Started (startOn w s) u
+    by-wire Free e = on-free s u i e (ready (s .credita) (s .a)) (ready (s .creditb) (s .b)) refl refl
+    by-wire (Sending f l) e = record { inv = i; idle = rw e (busy (s .table) f l u) }

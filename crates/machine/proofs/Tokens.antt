@@ -2,14 +2,16 @@
 use Prim.Native.Nat.{ℕ, zero, suc, _+_, _-_, _*_, _≤_, _<_, min}
 use mathlib.Core.Bool.{Bool, true, false, cond}
 use mathlib.Core.List.{List, [], _∷_}
-use mathlib.Core.Path.{_≡_, refl, sym, _∙_, ap}
-use native.Mathlib.Nat.{sub-self, mul-zero, mul-suc, mul-le-mul-left, le-of-suc-le-suc, le-trans}
+use mathlib.Core.Path.{_≡_, refl, ap}
+use native.Mathlib.Nat.{sub-self, mul-zero, mul-suc, mul-le-mul-left, le-of-suc-le-suc}
 use native.Mathlib.Omega.{arith}
 use lib.ListN.{length, getD, set}
-use Rattle.planner.specs.declared.Class.{Class}
-use Rattle.planner.specs.declared.Row.{Row}
-use Rattle.planner.specs.Wire.{D, sizeOf, shareOf}
-use Rattle.planner.specs.Rows.{noRow, sameClass, inClass, sumOver}
+use Rattle.table.specs.declared.Class.{Class}
+use Rattle.table.specs.declared.Row.{Row}
+use Rattle.table.specs.Limits.{D}
+use Rattle.table.specs.Wire.{sizeOf, shareOf}
+use Rattle.table.specs.Rows.{noRow}
+use Rattle.planner.specs.Sums.{inClass, sumOver}
 use Rattle.planner.proofs.Laws as law
 use Rattle.machine.specs.State.{Instant, never, at}
 

@@ -5,12 +5,12 @@ use mathlib.Core.List.{[], _∷_, _++_}
 use mathlib.Core.Path.{_≡_}
 use lib.Dec.{leb, ltb}
 use lib.ListN.{length, getD, set}
-use Rattle.planner.specs.declared.Class.{Class}
-use Rattle.planner.specs.declared.Class.the-variants.{A, B}
-use Rattle.planner.specs.declared.Table.{Table}
-use Rattle.planner.specs.Wire.{wireSize, sizeFor, periodOf}
-use Rattle.planner.specs.Rows.{rowsOf, rowAt}
-use Rattle.planner.specs.Opening.{Outcome, accepted, refused, outcomeOf, unless, first, opening}
+use Rattle.table.specs.declared.Class.{Class}
+use Rattle.table.specs.declared.Table.{Table}
+use Rattle.table.specs.Wire.{wireSize, sizeFor, periodOf}
+use Rattle.table.specs.Rows.{contents, rowAt, inUse}
+use Rattle.table.specs.Checks.{Outcome, accepted, refused, outcomeOf, unless, first}
+use Rattle.planner.specs.Opening.{opening}
 use Rattle.machine.specs.declared.Frame.{Frame}
 use Rattle.machine.specs.declared.Ended.{Ended}
 use Rattle.machine.specs.declared.Denial.{Denial}
@@ -23,9 +23,10 @@ use Rattle.machine.specs.declared.Port.{Port}
 use Rattle.machine.specs.declared.AfterOpening.{AfterOpening}
 use Rattle.machine.specs.declared.AfterOffer.{AfterOffer}
 use Rattle.machine.specs.declared.AfterAdvance.{AfterAdvance}
-use Rattle.machine.specs.State.{Instant, never, at, State, fresh, view}
+use Rattle.machine.specs.Limits.{lastClock, mostSteps, bestMark, bestPlaces}
+use Rattle.machine.specs.State.{Instant, never, at, State, queue, withQueue, withBest, withLast, fresh, view}
 use Rattle.machine.specs.Time.{progress}
-use Rattle.machine.specs.Record.{lastClock, bestMark, sound}
+use Rattle.machine.specs.Record.{sound}
 
 -- The calls in the lists of demand 3.
 pub data Call : Type 0 where
@@ -52,26 +53,25 @@ unfoldable pub offerCheck : State → ℕ → ℕ → Outcome
 offerCheck s k p =
     first
     (unless (sound s) 18 0
-    ∷ unless (ltb k (length (rowsOf (s .table)))) 11 0
+    ∷ unless (inUse (s .table) k) 11 0
     ∷ unless (leb p (rowAt (s .table) k .payload)) 12 0
     ∷ unless (not (early s k)) 13 0
     ∷ [])
 
 -- Offer of best effort: 18. 12, payload above the table's. 14, 16 waiting.
 unfoldable pub bestCheck : State → ℕ → Outcome
-bestCheck s p = first (unless (sound s) 18 0 ∷ unless (leb p (s .table .payload)) 12 0 ∷ unless (ltb (length (s .best)) 16) 14 0 ∷ [])
+bestCheck s p = first (unless (sound s) 18 0 ∷ unless (leb p (s .table .header .payload)) 12 0 ∷ unless (ltb (length (s .best)) bestPlaces) 14 0 ∷ [])
 
 -- Advance: 18. 15, n above 65,535. 16, clock + n past its last value.
 unfoldable pub advanceCheck : State → ℕ → Outcome
-advanceCheck s n = first (unless (sound s) 18 0 ∷ unless (leb n 65535) 15 0 ∷ unless (leb (s .clock + n) lastClock) 16 0 ∷ [])
+advanceCheck s n = first (unless (sound s) 18 0 ∷ unless (leb n mostSteps) 15 0 ∷ unless (leb (s .clock + n) lastClock) 16 0 ∷ [])
 
 -- Taken, a row's frame joins its class's queue.
 abbrev pub rowFrame : State → ℕ → ℕ → Frame
 rowFrame s k p = record { source = k; size = sizeFor (rowAt (s .table) k) p; taken = s .clock }
 
 abbrev pub joined : Class → Frame → State → State
-joined A f s = record { table = s .table; clock = s .clock; credita = s .credita; creditb = s .creditb; a = s .a ++ f ∷ []; b = s .b; best = s .best; last = set (s .last) (f .source) (at (f .taken)); wire = s .wire }
-joined B f s = record { table = s .table; clock = s .clock; credita = s .credita; creditb = s .creditb; a = s .a; b = s .b ++ f ∷ []; best = s .best; last = set (s .last) (f .source) (at (f .taken)); wire = s .wire }
+joined c f s = withLast (set (s .last) (f .source) (at (f .taken))) (withQueue c (queue c s ++ f ∷ []) s)
 
 unfoldable pub takeRow : ℕ → ℕ → State → State
 takeRow k p s = joined (rowAt (s .table) k .class) (rowFrame s k p) s
@@ -80,7 +80,7 @@ abbrev pub bestFrame : State → ℕ → Frame
 bestFrame s p = record { source = bestMark; size = wireSize p; taken = s .clock }
 
 unfoldable pub takeBest : ℕ → State → State
-takeBest p s = record { table = s .table; clock = s .clock; credita = s .credita; creditb = s .creditb; a = s .a; b = s .b; best = s .best ++ bestFrame s p ∷ []; last = s .last; wire = s .wire }
+takeBest p s = withBest (s .best ++ bestFrame s p ∷ []) s
 
 -- A refusal changes nothing.
 abbrev pub stateBy : Outcome → State → State → State
@@ -121,8 +121,9 @@ abbrev pub advanceAnswer : Advance → Answer
 advanceAnswer (advances.Passed n e) = passed n e
 advanceAnswer (advances.Refused d) = denied (numberOf d) 0
 
--- What a call gives: the machine's answer, the machine's port, and at a refusal the record as it was, every place. Where a call is not refused the places that
--- belong to no part are free: a queue's places from its count on, and the instants of numbers that are no row. They may hold anything, and no call reads them.
+-- What a call gives: the machine's answer, the machine's port, the table's places as they were, and at a refusal the whole record as it was. Where a call is not
+-- refused the other places that belong to no part are free: a queue's from its count on, the instants of numbers that are no row, and the number beside an instant
+-- that is not known. They may hold anything, and no answer and no part depends on them.
 abbrev pub Keeps : Answer → Port → Port → Type 0
 Keeps taken p q = Unit {0}
 Keeps (passed n e) p q = Unit {0}
@@ -131,7 +132,13 @@ Keeps (denied n l) p q = q ≡ p
 pub record Gives (p : Port) (c : Call) (a : Answer) (q : Port) : Type 0 where
   pub answer : a ≡ answer (view p) c
   pub port : view q ≡ after (view p) c
+  pub table : q .table ≡ p .table
   pub kept : Keeps a p q
+
+-- A record with these parts, and the table's places as they were.
+pub record Became (s : State) (p q : Port) : Type 0 where
+  pub port : view q ≡ s
+  pub table : q .table ≡ p .table
 
 -- The promises of the calls.
 abbrev pub Offered : Port → ℕ → ℕ → AfterOffer → Type 0
@@ -143,7 +150,9 @@ OfferedBest p x r = Gives p (offerBest x) (offerAnswer (r .answer)) (r .port)
 abbrev pub Advanced : Port → ℕ → AfterAdvance → Type 0
 Advanced p n r = Gives p (advance n) (advanceAnswer (r .answer)) (r .port)
 
--- Opening: the planner's verdict, and the fresh port of the table; the places that belong to no part are free here too. At a refusal the port is handed back all the same; its table is not accepted, so every call on it answers 18.
+-- Opening: the planner's verdict, and the fresh port of the table, which stands in the record as it was handed in; the other places that belong to no part are free
+-- here too. At a refusal the port is handed back all the same; its table is not accepted, so every call on it answers 18.
 pub record Opened (t : Table) (r : AfterOpening) : Type 0 where
-  pub verdict : outcomeOf (r .verdict) ≡ opening t
-  pub port : view (r .port) ≡ fresh t
+  pub verdict : outcomeOf (r .verdict) ≡ opening (contents t)
+  pub port : view (r .port) ≡ fresh (contents t)
+  pub table : r .port .table ≡ t

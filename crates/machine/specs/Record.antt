@@ -5,26 +5,21 @@ use mathlib.Core.List.{List, [], _∷_}
 use lib.IntN.{ℤ, pos, negsuc}
 use lib.Dec.{leb, ltb, eqb}
 use lib.ListN.{length, getD}
-use Rattle.planner.specs.declared.Class.{Class}
-use Rattle.planner.specs.declared.Class.the-variants.{A, B}
-use Rattle.planner.specs.declared.Table.{Table}
-use Rattle.planner.specs.Wire.{sizeOf}
-use Rattle.planner.specs.Rows.{rowsOf, rowAt, inClass, largest, idle, send, bestSize}
-use Rattle.planner.specs.Bound.{blocking, bound}
-use Rattle.planner.specs.Opening.{Outcome, accepted, refused, opening}
+use Rattle.table.specs.declared.Class.{Class}
+use Rattle.table.specs.declared.Class.the-variants.{A, B}
+use Rattle.table.specs.Limits.{leastSize}
+use Rattle.table.specs.Wire.{sizeOf}
+use Rattle.table.specs.Rows.{Contents, rowAt, inUse}
+use Rattle.table.specs.Checks.{Outcome, accepted, refused}
+use Rattle.planner.specs.Sums.{inClass, largest, idle, send, bestSize}
+use Rattle.planner.specs.Bound.{blocking, residence}
+use Rattle.planner.specs.Opening.{opening}
 use Rattle.machine.specs.declared.Frame.{Frame}
 use Rattle.machine.specs.declared.Wire.{Wire}
 use Rattle.machine.specs.declared.Wire.the-variants.{Free, Sending}
+use Rattle.machine.specs.Limits.{lastClock, bestMark, bestPlaces, mostOf}
 use Rattle.machine.specs.State.{Instant, never, at, State, credit}
 use Rattle.machine.specs.Time.{Owner, shaped, unshaped, owner}
-
--- The clock's last value.
-abbrev pub lastClock : ℕ
-lastClock = 1099511627775
-
--- The best-effort mark of a frame.
-abbrev pub bestMark : ℕ
-bestMark = 32
 
 abbrev pub isAccepted : Outcome → Bool
 isAccepted accepted = true
@@ -57,11 +52,11 @@ creditSound c s = between (send c (s .table) * largest c (s .table)) (idle c (s 
 
 -- No more than 16 best-effort frames wait.
 unfoldable pub bestSound : State → Bool
-bestSound s = leb (length (s .best)) 16
+bestSound s = leb (length (s .best)) bestPlaces
 
 -- A frame names a row of the table. The frame on the wire names a row or bears the best-effort mark.
-abbrev pub namesRow : Table → Frame → Bool
-namesRow t f = ltb (f .source) (length (rowsOf t))
+abbrev pub namesRow : Contents → Frame → Bool
+namesRow t f = inUse t (f .source)
 
 abbrev pub isBest : Frame → Bool
 isBest f = eqb (f .source) bestMark
@@ -70,7 +65,7 @@ unfoldable pub namesSound : State → Bool
 namesSound s = (allOf (namesRow (s .table)) (s .a) && allOf (namesRow (s .table)) (s .b)) && onSending (λ f left. namesRow (s .table) f || isBest f) (s .wire)
 
 -- A frame is in the right queue: a row's in its class's, one with the mark in best effort's.
-abbrev pub rowIn : Class → Table → Frame → Bool
+abbrev pub rowIn : Class → Contents → Frame → Bool
 rowIn c t f = inClass c (rowAt t (f .source))
 
 unfoldable pub queuesSound : State → Bool
@@ -78,12 +73,12 @@ queuesSound s = (allOf (rowIn A (s .table)) (s .a) && allOf (rowIn B (s .table))
 
 -- A frame has a size from 84 to its row's C (best effort: LC).
 abbrev pub sizeWithin : ℕ → Frame → Bool
-sizeWithin most f = leb 84 (f .size) && leb (f .size) most
+sizeWithin most f = leb leastSize (f .size) && leb (f .size) most
 
-abbrev pub rowSize : Table → Frame → Bool
+abbrev pub rowSize : Contents → Frame → Bool
 rowSize t f = sizeWithin (sizeOf (rowAt t (f .source))) f
 
-abbrev pub sizeBy : Owner → Table → Frame → Bool
+abbrev pub sizeBy : Owner → Contents → Frame → Bool
 sizeBy (shaped c) t f = rowSize t f
 sizeBy unshaped t f = sizeWithin (bestSize t) f
 
@@ -132,13 +127,13 @@ sending k (Sending f left) = count (eqb (f .source) k)
 unfoldable pub held : ℕ → State → ℕ
 held k s = inQueue k (s .a) + inQueue k (s .b) + sending k (s .wire)
 
--- No row has two frames in the port.
+-- No row has more frames in the port than it may have: two are one too many.
 abbrev pub upTo : ℕ → (ℕ → Bool) → Bool
 upTo zero ok = true
 upTo (suc n) ok = upTo n ok && ok n
 
-unfoldable pub singleSound : State → Bool
-singleSound s = upTo (length (rowsOf (s .table))) (λ k. leb (held k s) 1)
+unfoldable pub heldSound : State → Bool
+heldSound s = upTo (length (s .table .rows)) (λ k. leb (held k s) (mostOf (s .table) k))
 
 -- What holds of each row's frame in the port, waiting or on the wire.
 abbrev pub rowOnly : Owner → Bool → Bool
@@ -156,9 +151,9 @@ isAt k (at j) = eqb j k
 unfoldable pub latestSound : State → Bool
 latestSound s = eachRowFrame (λ f. isAt (f .taken) (getD (s .last) (f .source) never)) s
 
--- A row's frame is younger than its bound.
+-- A row's frame is younger than its residence, which is as long as its bound.
 unfoldable pub ageSound : State → Bool
-ageSound s = eachRowFrame (λ f. ltb (s .clock - f .taken) (bound (s .table) (rowAt (s .table) (f .source)))) s
+ageSound s = eachRowFrame (λ f. ltb (s .clock - f .taken) (residence (s .table) (rowAt (s .table) (f .source)))) s
 
 abbrev pub allTrue : List Bool → Bool
 allTrue [] = true
@@ -179,7 +174,7 @@ sound s =
     ∷ leftSound s
     ∷ framesTaken s
     ∷ rowsTaken s
-    ∷ singleSound s
+    ∷ heldSound s
     ∷ latestSound s
     ∷ ageSound s
     ∷ [])

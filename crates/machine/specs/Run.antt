@@ -1,20 +1,22 @@
 -- Demand 3: what is promised of every list of calls from a fresh port.
-use Prim.Native.Nat.{ℕ, _+_, _≤_, _<_}
+use Prim.Native.Nat.{ℕ, _+_, _≤_}
 use mathlib.Core.Bool.{Bool, true, false, _&&_}
 use mathlib.Core.List.{List, [], _∷_}
 use mathlib.Core.Path.{_≡_}
 use lib.Dec.{eqb}
 use lib.ListN.{length}
-use Rattle.planner.specs.declared.Class.{Class}
-use Rattle.planner.specs.declared.Table.{Table}
-use Rattle.planner.specs.Wire.{sizeFor, periodOf}
-use Rattle.planner.specs.Rows.{rowsOf, rowAt}
+use Rattle.table.specs.declared.Class.{Class}
+use Rattle.table.specs.declared.Table.{Table}
+use Rattle.table.specs.Wire.{sizeFor, periodOf}
+use Rattle.table.specs.Rows.{Contents, contents, rowAt, InUse}
+use Rattle.table.specs.Checks.{accepted}
 use Rattle.planner.specs.Bound.{bound}
-use Rattle.planner.specs.Opening.{accepted, opening}
+use Rattle.planner.specs.Opening.{opening}
 use Rattle.machine.specs.declared.Frame.{Frame}
 use Rattle.machine.specs.declared.Ended.the-variants.{Reported, Nothing}
 use Rattle.machine.specs.declared.Port.{Port}
 use Rattle.machine.specs.declared.AfterOpening.{AfterOpening}
+use Rattle.machine.specs.Limits.{classPlaces}
 use Rattle.machine.specs.State.{Instant, never, at, State, queue, fresh, view}
 use Rattle.machine.specs.Record.{count}
 use Rattle.machine.specs.Calls.{Call, offer, offerBest, advance, Answer, taken, passed, denied, tooSoon, after, answer, Gives, Opened}
@@ -25,7 +27,7 @@ pub data Event : Type 0 where
 
 -- A run: a list of calls with the answers they gave, tied from record to record by what the calls promise, from a record that opening gave for an accepted table.
 pub data Run (t : Table) : List Event → Port → Type 0 where
-  opened : {r : AfterOpening} → Opened t r → opening t ≡ accepted → Run t [] (r .port)
+  opened : {r : AfterOpening} → Opened t r → opening (contents t) ≡ accepted → Run t [] (r .port)
   called : {es : List Event} {p q : Port} {c : Call} {a : Answer} → Run t es p → Gives p c a q → Run t (event c a ∷ es) q
 
 -- The clock stands at the sum of the counts passed that the list's advances have given; a refused call adds nothing.
@@ -39,11 +41,11 @@ clockOf [] = 0
 clockOf (event c a ∷ es) = passedBy a + clockOf es
 
 -- The byte-time machine started fresh and fed with the list's calls alone, and whether it gives the list's answers.
-abbrev pub machine : Table → List Event → State
+abbrev pub machine : Contents → List Event → State
 machine t [] = fresh t
 machine t (event c a ∷ es) = after (machine t es) c
 
-abbrev pub AsMachine : Table → List Event → Type 0
+abbrev pub AsMachine : Contents → List Event → Type 0
 AsMachine t [] = Unit {0}
 AsMachine t (event c a ∷ es) = (a ≡ answer (machine t es) c) × AsMachine t es
 
@@ -81,13 +83,13 @@ reports row instant size [] = 0
 reports row instant size (event c a ∷ es) = reportedBy row instant size a + reports row instant size es
 
 -- The list is one of the byte-time machine: its answers, its clock and its port.
-pub record Faithful (t : Table) (es : List Event) (p : Port) : Type 0 where
+pub record Faithful (t : Contents) (es : List Event) (p : Port) : Type 0 where
   pub answers : AsMachine t es
   pub clock : view p .clock ≡ clockOf es
   pub port : view p ≡ machine t es
 
 -- Of a frame taken by an offer to a row with a payload, after the events `before`: its instant is the clock at that offer, its size is worked out from the payload offered.
-pub record Served (t : Table) (es : List Event) (row payload : ℕ) (before : List Event) : Type 0 where
+pub record Served (t : Contents) (es : List Event) (row payload : ℕ) (before : List Event) : Type 0 where
   -- at most one advance reports it
   pub once : reports row (clockOf before) (sizeFor (rowAt t row) payload) es ≤ 1
   -- that one leaves the clock no later than its instant plus its row's bound
@@ -96,17 +98,17 @@ pub record Served (t : Table) (es : List Event) (row payload : ℕ) (before : Li
   pub reported : clockOf before + bound t (rowAt t row) ≤ clockOf es → reports row (clockOf before) (sizeFor (rowAt t row) payload) es ≡ 1
 
 -- Demand 3, of a list of calls with their answers, and the record that it leads to.
-pub record Demand3 (t : Table) (es : List Event) (p : Port) : Type 0 where
+pub record Demand3 (t : Contents) (es : List Event) (p : Port) : Type 0 where
   pub faithful : Faithful t es p
   -- every taken frame is served
   pub served : (row payload : ℕ) (before : List Event) → Happened (event (offer row payload) taken) before es → Served t es row payload before
-  -- no more frames of a class wait than the 32 places of its queue
-  pub places : (c : Class) → length (queue c (view p)) ≤ 32
+  -- no more frames of a class wait than its queue has places
+  pub places : (c : Class) → length (queue c (view p)) ≤ classPlaces
   -- no call meets 18
   pub unbroken : (c : Call) (place : ℕ) (before : List Event) → Happened (event c (denied 18 place)) before es → ⊥
   -- every offer to a row which 11, 12 and 13, judged by their rules, let pass is taken
-  pub space : (row payload : ℕ) (a : Answer) (before : List Event) → Happened (event (offer row payload) a) before es → row < length (rowsOf t) → payload ≤ rowAt t row .payload → tooSoon (lastTaken row before) (clockOf before) (periodOf (rowAt t row)) ≡ false → a ≡ taken
+  pub space : (row payload : ℕ) (a : Answer) (before : List Event) → Happened (event (offer row payload) a) before es → InUse t row → payload ≤ rowAt t row .payload → tooSoon (lastTaken row before) (clockOf before) (periodOf (rowAt t row)) ≡ false → a ≡ taken
 
 -- Demand 3 holds of every run.
 abbrev pub EveryRun : Type 0
-EveryRun = (t : Table) (es : List Event) (p : Port) → Run t es p → Demand3 t es p
+EveryRun = (t : Table) (es : List Event) (p : Port) → Run t es p → Demand3 (contents t) es p

@@ -1,18 +1,20 @@
 -- A port by its parts.
 use Prim.Native.Nat.{ℕ, _-_}
-use mathlib.Core.Bool.{cond}
-use mathlib.Core.List.{List, [], _∷_, _++_, map}
+use mathlib.Core.Bool.{false, cond}
+use mathlib.Core.List.{List, [], _++_, map}
+use mathlib.Core.Path.{_≡_}
 use lib.IntN.{ℤ, pos}
 use lib.ListN.{take, length, replicate}
-use Rattle.planner.specs.declared.Class.{Class}
-use Rattle.planner.specs.declared.Class.the-variants.{A, B}
-use Rattle.planner.specs.declared.Table.{Table}
-use Rattle.planner.specs.Rows.{rowsOf}
+use Rattle.table.specs.declared.Class.{Class}
+use Rattle.table.specs.declared.Class.the-variants.{A, B}
+use Rattle.table.specs.Limits.{mostRows}
+use Rattle.table.specs.Rows.{Contents, contents}
 use Rattle.machine.specs.declared.Frame.{Frame}
 use Rattle.machine.specs.declared.Wire.{Wire}
 use Rattle.machine.specs.declared.Wire.the-variants.{Free}
 use Rattle.machine.specs.declared.Last.{Last}
 use Rattle.machine.specs.declared.Port.{Port}
+use Rattle.machine.specs.Limits.{noMark, classPlaces, bestPlaces}
 
 -- The instant of a row's last taken frame, or none.
 pub data Instant : Type 0 where
@@ -21,7 +23,7 @@ pub data Instant : Type 0 where
 
 -- A port has its table, a clock, two credits, three first-in-first-out queues (A, B, best effort), the instant of each row's last taken frame, and the wire.
 pub record State : Type 0 where
-  pub table : Table
+  pub table : Contents
   pub clock : ℕ
   pub credita : ℤ
   pub creditb : ℤ
@@ -39,8 +41,33 @@ abbrev pub queue : Class → State → List Frame
 queue A s = s .a
 queue B s = s .b
 
+-- A port with another part, and all else as it was.
+abbrev pub withClock : ℕ → State → State
+withClock x s = record { table = s .table; clock = x; credita = s .credita; creditb = s .creditb; a = s .a; b = s .b; best = s .best; last = s .last; wire = s .wire }
+
+abbrev pub withCredits : ℤ → ℤ → State → State
+withCredits x y s = record { table = s .table; clock = s .clock; credita = x; creditb = y; a = s .a; b = s .b; best = s .best; last = s .last; wire = s .wire }
+
+abbrev pub instead : Class → Class → List Frame → List Frame → List Frame
+instead A A x q = x
+instead A B x q = q
+instead B A x q = q
+instead B B x q = x
+
+abbrev pub withQueue : Class → List Frame → State → State
+withQueue c x s = record { table = s .table; clock = s .clock; credita = s .credita; creditb = s .creditb; a = instead c A x (s .a); b = instead c B x (s .b); best = s .best; last = s .last; wire = s .wire }
+
+abbrev pub withBest : List Frame → State → State
+withBest x s = record { table = s .table; clock = s .clock; credita = s .credita; creditb = s .creditb; a = s .a; b = s .b; best = x; last = s .last; wire = s .wire }
+
+abbrev pub withLast : List Instant → State → State
+withLast x s = record { table = s .table; clock = s .clock; credita = s .credita; creditb = s .creditb; a = s .a; b = s .b; best = s .best; last = x; wire = s .wire }
+
+abbrev pub withWire : Wire → State → State
+withWire x s = record { table = s .table; clock = s .clock; credita = s .credita; creditb = s .creditb; a = s .a; b = s .b; best = s .best; last = s .last; wire = x }
+
 -- Fresh: clock and credits 0, no frames, no instants.
-unfoldable pub fresh : Table → State
+unfoldable pub fresh : Contents → State
 fresh t =
     record {
       table = t;
@@ -50,12 +77,12 @@ fresh t =
       a = [];
       b = [];
       best = [];
-      last = replicate (length (rowsOf t)) never;
+      last = replicate (length (t .rows)) never;
       wire = Free;
     }
 
 abbrev pub noFrame : Frame
-noFrame = record { source = 33; size = 0; taken = 0 }
+noFrame = record { source = noMark; size = 0; taken = 0 }
 
 -- The frames that wait in a queue's places. A count above the places stands for frames that name no row.
 abbrev pub waiting : ℕ → List Frame → List Frame
@@ -64,17 +91,35 @@ waiting n places = take n places ++ replicate (n - length places) noFrame
 abbrev pub instantOf : Last → Instant
 instantOf l = cond (l .known) (at (l .taken)) never
 
--- A port record by its parts: queue places and instants not in use belong to none of them. The table stands whole.
+-- The instants of as many rows as a table counts: those of its places. A row without a place has none.
+abbrev pub instantsOf : ℕ → List Last → List Instant
+instantsOf n places = map instantOf (take n places) ++ replicate (n - length places) never
+
+-- A port record by its parts: row and queue places not in use belong to none of them, nor do the instants of numbers that are no row.
 unfoldable pub view : Port → State
 view p =
     record {
-      table = p .table;
+      table = contents (p .table);
       clock = p .clock;
       credita = p .credita;
       creditb = p .creditb;
       a = waiting (p .a .count) (p .a .frames);
       b = waiting (p .b .count) (p .b .frames);
       best = waiting (p .best .count) (p .best .frames);
-      last = map instantOf (take (length (rowsOf (p .table))) (p .last));
+      last = instantsOf (p .table .count) (p .last);
       wire = p .wire;
     }
+
+-- A record whose arrays have their places, as every record has that a program holds; and zeros, which an unused place may hold.
+pub record Places (p : Port) : Type 0 where
+  pub rows : length (p .table .rows) ≡ mostRows
+  pub a : length (p .a .frames) ≡ classPlaces
+  pub b : length (p .b .frames) ≡ classPlaces
+  pub best : length (p .best .frames) ≡ bestPlaces
+  pub last : length (p .last) ≡ mostRows
+
+abbrev pub zeroFrame : Frame
+zeroFrame = record { source = 0; size = 0; taken = 0 }
+
+abbrev pub zeroLast : Last
+zeroLast = record { known = false; taken = 0 }

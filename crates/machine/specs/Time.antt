@@ -1,35 +1,35 @@
--- One byte-time, in four steps, and byte-times until a frame ends.
+-- One byte-time, in four steps, and byte-times until a frame is reported ended.
 use Prim.Native.Nat.{ℕ, zero, suc, _+_}
 use mathlib.Core.Bool.{Bool, true, false, cond}
 use mathlib.Core.List.{List, [], _∷_}
 use lib.IntN.{ℤ, pos, negsuc, _+ℤ_, _-ℤ_}
-use lib.Dec.{ltb}
-use lib.ListN.{length}
-use Rattle.planner.specs.declared.Class.{Class}
-use Rattle.planner.specs.declared.Class.the-variants.{A, B}
-use Rattle.planner.specs.declared.Table.{Table}
-use Rattle.planner.specs.Rows.{rowsOf, rowAt, sameClass, idle, send}
+use lib.Dec.{eqb}
+use Rattle.table.specs.declared.Class.{Class}
+use Rattle.table.specs.declared.Class.the-variants.{A, B}
+use Rattle.table.specs.Limits.{leftAtReport}
+use Rattle.table.specs.Rows.{Contents, rowAt, inUse, sameClass}
+use Rattle.planner.specs.Sums.{idle, send}
 use Rattle.machine.specs.declared.Frame.{Frame}
 use Rattle.machine.specs.declared.Wire.{Wire}
 use Rattle.machine.specs.declared.Wire.the-variants.{Free, Sending}
 use Rattle.machine.specs.declared.Ended.{Ended}
 use Rattle.machine.specs.declared.Ended.the-variants.{Reported, Nothing}
-use Rattle.machine.specs.State.{State}
+use Rattle.machine.specs.State.{State, credit, queue, withClock, withCredits, withQueue, withBest, withWire}
 
 -- A frame is of the class of the row that it names, or of best effort.
 pub data Owner : Type 0 where
   shaped : Class → Owner
   unshaped : Owner
 
-unfoldable pub owner : Table → Frame → Owner
-owner t f = cond (ltb (f .source) (length (rowsOf t))) (shaped (rowAt t (f .source) .class)) unshaped
+unfoldable pub owner : Contents → Frame → Owner
+owner t f = cond (inUse t (f .source)) (shaped (rowAt t (f .source) .class)) unshaped
 
 abbrev pub owns : Class → Owner → Bool
 owns c (shaped d) = sameClass c d
 owns c unshaped = false
 
 -- A class has its frame on the wire.
-abbrev pub onWire : Class → Table → Wire → Bool
+abbrev pub onWire : Class → Contents → Wire → Bool
 onWire c t Free = false
 onWire c t (Sending f left) = owns c (owner t f)
 
@@ -47,17 +47,14 @@ abbrev pub behindHead : List Frame → List Frame
 behindHead [] = []
 behindHead (f ∷ fs) = fs
 
-abbrev pub sendA : State → State
-sendA s = record { table = s .table; clock = s .clock; credita = s .credita; creditb = s .creditb; a = behindHead (s .a); b = s .b; best = s .best; last = s .last; wire = headOut (s .a) }
-
-abbrev pub sendB : State → State
-sendB s = record { table = s .table; clock = s .clock; credita = s .credita; creditb = s .creditb; a = s .a; b = behindHead (s .b); best = s .best; last = s .last; wire = headOut (s .b) }
+abbrev pub sendOf : Class → State → State
+sendOf c s = withWire (headOut (queue c s)) (withQueue c (behindHead (queue c s)) s)
 
 abbrev pub sendBest : State → State
-sendBest s = record { table = s .table; clock = s .clock; credita = s .credita; creditb = s .creditb; a = s .a; b = s .b; best = behindHead (s .best); last = s .last; wire = headOut (s .best) }
+sendBest s = withWire (headOut (s .best)) (withBest (behindHead (s .best)) s)
 
 abbrev pub startOn : Wire → State → State
-startOn Free s = cond (ready (s .credita) (s .a)) (sendA s) (cond (ready (s .creditb) (s .b)) (sendB s) (sendBest s))
+startOn Free s = cond (ready (credit A s) (queue A s)) (sendOf A s) (cond (ready (credit B s) (queue B s)) (sendOf B s) (sendBest s))
 startOn (Sending f left) s = s
 
 unfoldable pub start : State → State
@@ -77,35 +74,26 @@ earned true q i s c = c -ℤ pos s
 earned false (f ∷ fs) i s c = c +ℤ pos i
 earned false [] i s c = rise c i
 
-abbrev pub earn : State → State
-earn s =
-    record {
-      table = s .table;
-      clock = s .clock;
-      credita = earned (onWire A (s .table) (s .wire)) (s .a) (idle A (s .table)) (send A (s .table)) (s .credita);
-      creditb = earned (onWire B (s .table) (s .wire)) (s .b) (idle B (s .table)) (send B (s .table)) (s .creditb);
-      a = s .a;
-      b = s .b;
-      best = s .best;
-      last = s .last;
-      wire = s .wire;
-    }
+abbrev pub earnedBy : Class → State → ℤ
+earnedBy c s = earned (onWire c (s .table) (s .wire)) (queue c s) (idle c (s .table)) (send c (s .table)) (credit c s)
 
--- Step 3. One byte passes, the clock gains 1; after the last byte the wire is free and the frame has ended.
+abbrev pub earn : State → State
+earn s = withCredits (earnedBy A s) (earnedBy B s) s
+
+-- Step 3. One byte passes, the clock gains 1; after the last byte the frame is over and the wire is free.
 abbrev pub wireAfter : Wire → Wire
 wireAfter Free = Free
 wireAfter (Sending f zero) = Free
 wireAfter (Sending f (suc zero)) = Free
 wireAfter (Sending f (suc (suc left))) = Sending f (suc left)
 
-abbrev pub endedBy : Wire → Ended
-endedBy Free = Nothing
-endedBy (Sending f zero) = Reported f
-endedBy (Sending f (suc zero)) = Reported f
-endedBy (Sending f (suc (suc left))) = Nothing
-
 abbrev pub pass : State → State
-pass s = record { table = s .table; clock = suc (s .clock); credita = s .credita; creditb = s .creditb; a = s .a; b = s .b; best = s .best; last = s .last; wire = wireAfter (s .wire) }
+pass s = withClock (suc (s .clock)) (withWire (wireAfter (s .wire)) s)
+
+-- A frame has ended, and is reported, in the byte-time that leaves `leftAtReport` of its bytes: its last.
+unfoldable pub reportedIn : Wire → Ended
+reportedIn Free = Nothing
+reportedIn (Sending f left) = cond (eqb left (suc leftAtReport)) (Reported f) Nothing
 
 -- Step 4. A class with no frame waiting or on the wire and credit above 0 goes to 0.
 abbrev pub settled : Bool → List Frame → ℤ → ℤ
@@ -113,26 +101,18 @@ settled true q c = c
 settled false (f ∷ fs) c = c
 settled false [] c = upToZero c
 
-abbrev pub settle : State → State
-settle s =
-    record {
-      table = s .table;
-      clock = s .clock;
-      credita = settled (onWire A (s .table) (s .wire)) (s .a) (s .credita);
-      creditb = settled (onWire B (s .table) (s .wire)) (s .b) (s .creditb);
-      a = s .a;
-      b = s .b;
-      best = s .best;
-      last = s .last;
-      wire = s .wire;
-    }
+abbrev pub settledBy : Class → State → ℤ
+settledBy c s = settled (onWire c (s .table) (s .wire)) (queue c s) (credit c s)
 
--- One byte-time, and the frame that ends in it.
+abbrev pub settle : State → State
+settle s = withCredits (settledBy A s) (settledBy B s) s
+
+-- One byte-time, and the frame that is reported in it.
 unfoldable pub byteTime : State → State
 byteTime s = settle (pass (earn (start s)))
 
 unfoldable pub endsIn : State → Ended
-endsIn s = endedBy (start s .wire)
+endsIn s = reportedIn (start s .wire)
 
 -- Byte-times until a frame ends or n have passed.
 pub record Progress : Type 0 where

@@ -1,4 +1,27 @@
 // The types of a port: its record, its frames and wire, and the answers of its calls.
+pub mod numbers;
+
+use table::ROWS;
+
+// The clock's last value.
+pub const LAST_CLOCK: u64 = 1_099_511_627_775;
+
+// The most byte-times of an advance.
+pub const MOST_STEPS: u64 = 65_535;
+
+// The places of a class queue, and of the best-effort queue.
+pub const CLASS_PLACES: usize = 32;
+
+pub const BEST_PLACES: usize = 16;
+
+// How many frames a row may have in the port.
+pub const MOST_OF_A_ROW: u8 = 1;
+
+// The best-effort mark of a frame.
+pub const BEST_MARK: u32 = 32;
+
+// The mark of no frame.
+pub const NO_MARK: u32 = 33;
 
 // A frame: its row, or 32 for best effort; its wire size; the instant it was taken.
 pub struct Frame {
@@ -16,13 +39,13 @@ pub enum Wire {
 // The frames of a class that wait, first in first out: the first `count` places.
 pub struct Queue {
     pub count: usize,
-    pub frames: [Frame; 32],
+    pub frames: [Frame; CLASS_PLACES],
 }
 
 // The best-effort frames that wait.
 pub struct BestQueue {
     pub count: usize,
-    pub frames: [Frame; 16],
+    pub frames: [Frame; BEST_PLACES],
 }
 
 // The instant of a row's last taken frame, if it has one.
@@ -33,14 +56,14 @@ pub struct Last {
 
 // A port.
 pub struct Port {
-    pub table: planner::Table,
+    pub table: table::Table,
     pub clock: u64,
     pub credita: i64,
     pub creditb: i64,
     pub a: Queue,
     pub b: Queue,
     pub best: BestQueue,
-    pub last: [Last; 32],
+    pub last: [Last; ROWS],
     pub wire: Wire,
 }
 
@@ -73,9 +96,9 @@ pub enum Advance {
     Refused(Denial),
 }
 
-// What opening gives back: the planner's verdict, and the fresh port.
+// What opening gives back: the verdict, and the fresh port.
 pub struct AfterOpening {
-    pub verdict: planner::Verdict,
+    pub verdict: table::Verdict,
     pub port: Port,
 }
 

@@ -7,7 +7,7 @@ use native.Mathlib.Numerals.{add-one}
 use native.Mathlib.Omega.{arith}
 use lib.ListN.{length, getD, take, set, replicate, length-map}
 use lib.Seq.{take-suc, take-all, length-take-le, set-at}
-use Rattle.planner.specs.declared.Row.{Row}
+use Rattle.table.specs.declared.Row.{Row}
 
 module _ (f : Row → ℕ) where
   map-append : (l m : List Row) → map f (l ++ m) ≡ map f l ++ map f m

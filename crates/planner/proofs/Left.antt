@@ -5,33 +5,35 @@ use native.Mathlib.Numerals.{add-one}
 use native.Mathlib.Nat.{add-zero, zero-add, max-zero, zero-max, add-assoc}
 use native.Mathlib.Omega.{arith}
 use lib.ListN.{length, getD, drop}
-use Rattle.planner.specs.declared.Class.{Class}
-use Rattle.planner.specs.declared.Row.{Row}
-use Rattle.planner.specs.declared.Table.{Table}
+use Rattle.table.specs.declared.Class.{Class}
+use Rattle.table.specs.declared.Row.{Row}
+use Rattle.table.specs.declared.Table.{Table}
+use Rattle.table.specs.Limits.{mostRows}
+use Rattle.table.specs.Wire.{sizeOf, shareOf}
+use Rattle.table.specs.Rows.{rowsOf, noRow, contents}
+use Rattle.table.proofs.Laws.{next-row, no-row}
 use Rattle.planner.specs.declared.Figures.{Figures}
-use Rattle.planner.specs.Wire.{sizeOf, shareOf}
-use Rattle.planner.specs.Rows.{rowsOf, noRow, part, sumOver, maxOver, members, largest, total, shares}
+use Rattle.planner.specs.Sums.{part, sumOver, maxOver, members, largest, total, shares}
 use Rattle.planner.specs.Steps.{figuresOf, joined}
-use Rattle.planner.proofs.Shape.{next-row, no-row}
 
 pub record Remaining (c : Class) (t : Table) (i : ℕ) (f : Figures) : Type 0 where
-  pub members : f .members + sumOver c (λ r. 1) (drop i (rowsOf t)) ≡ members c t
-  pub largest : max (f .largest) (maxOver c sizeOf (drop i (rowsOf t))) ≡ largest c t
-  pub total : f .total + sumOver c sizeOf (drop i (rowsOf t)) ≡ total c t
-  pub shares : f .shares + sumOver c shareOf (drop i (rowsOf t)) ≡ shares c t
+  pub members : f .members + sumOver c (λ r. 1) (drop i (rowsOf t)) ≡ members c (contents t)
+  pub largest : max (f .largest) (maxOver c sizeOf (drop i (rowsOf t))) ≡ largest c (contents t)
+  pub total : f .total + sumOver c sizeOf (drop i (rowsOf t)) ≡ total c (contents t)
+  pub shares : f .shares + sumOver c shareOf (drop i (rowsOf t)) ≡ shares c (contents t)
 
 pub at-start : (c : Class) (t : Table) → Remaining c t 0 (record { members = 0; largest = 0; total = 0; shares = 0 })
 unfolding members largest total shares
 at-start c t = record { members = zero-add _; largest = zero-max _; total = zero-add _; shares = zero-add _ }
 
-module _ (c : Class) (t : Table) (long : length (t .rows) ≡ 32) (few : t .count ≤ 32) (i : ℕ) where
+module _ (c : Class) (t : Table) (long : length (t .rows) ≡ 32) (few : t .count ≤ mostRows) (i : ℕ) where
   sum-turn : (g : Row → ℕ) (a : ℕ) → i < t .count → a + part c g (getD (t .rows) i noRow) + sumOver c g (drop (i + 1) (rowsOf t)) ≡ a + sumOver c g (drop i (rowsOf t))
   unfolding sumOver
-  sum-turn g a h = rw (add-one, next-row t long few i noRow h) (add-assoc _ _ _)
+  sum-turn g a h = rw (add-one, next-row t long few i h) (add-assoc _ _ _)
 
   max-turn : (g : Row → ℕ) (a : ℕ) → i < t .count → max (max a (part c g (getD (t .rows) i noRow))) (maxOver c g (drop (i + 1) (rowsOf t))) ≡ max a (maxOver c g (drop i (rowsOf t)))
   unfolding maxOver
-  max-turn g a h = rw (add-one, next-row t long few i noRow h) (omega arith)
+  max-turn g a h = rw (add-one, next-row t long few i h) (omega arith)
 
   pub after-turn : (f : Figures) → i < t .count → Remaining c t i f → Remaining c t (i + 1) (joined f c (getD (t .rows) i noRow))
   after-turn f h r =
@@ -42,7 +44,7 @@ module _ (c : Class) (t : Table) (long : length (t .rows) ≡ 32) (few : t .coun
         shares = sum-turn shareOf (f .shares) h ∙ r .shares;
       }
 
-  pub at-end : (f : Figures) → t .count ≤ i → Remaining c t i f → f ≡ figuresOf c t
+  pub at-end : (f : Figures) → t .count ≤ i → Remaining c t i f → f ≡ figuresOf c (contents t)
   unfolding sumOver maxOver
   at-end f h r =
       let nothing-left = no-row t long few i h in

@@ -1,7 +1,4 @@
 -- Laws that belong to no one function. `Laws` is what the crates above may cite.
-mod Division
-mod Shape
-mod Search
 mod Left
 mod Members
 mod Fill

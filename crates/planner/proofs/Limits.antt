@@ -1,40 +1,36 @@
--- The row and the bound at a place of a table.
+-- The row and the bound at a place of a table record.
 use Prim.Native.Nat.{ℕ, _-_, _≤_, _<_}
 use mathlib.Core.Bool.{true}
 use mathlib.Core.List.{map}
 use mathlib.Core.Path.{_≡_, _∙_, ap}
 use lib.ListN.{length, getD, replicate, List·getD-append, length-map}
-use lib.Seq.{getD-take}
-use Rattle.planner.specs.declared.Table.{Table}
-use Rattle.planner.specs.Wire.{sizeOf}
-use Rattle.planner.specs.Rows.{noRow, rowsOf, inClass, members, total}
+use Rattle.table.specs.declared.Table.{Table}
+use Rattle.table.specs.Limits.{mostRows}
+use Rattle.table.specs.Wire.{sizeOf}
+use Rattle.table.specs.Rows.{noRow, Contents, rowsOf, contents, rowAt, InUse}
+use Rattle.table.proofs.Laws.{in-use, row-at, same-self}
+use Rattle.planner.specs.Sums.{inClass, members, total}
 use Rattle.planner.specs.Bound.{bound, bounds}
-use Rattle.planner.proofs.Shape.{rows-length}
-use Rattle.planner.proofs.Members.{same-self, sum-at}
+use Rattle.planner.proofs.Members.{sum-at}
 use Rattle.planner.proofs.Fill.{getD-map-in}
 
-module _ (t : Table) (long : length (t .rows) ≡ 32) (few : t .count ≤ 32) (i : ℕ) (h : i < t .count) where
-  pub row-at : getD (rowsOf t) i noRow ≡ getD (t .rows) i noRow
-  unfolding rowsOf
-  row-at = getD-take (t .count) (t .rows) i noRow h
+-- the bound of a row stands at the row's number
+pub bounds-row : (t : Contents) (k : ℕ) → InUse t k → getD (bounds t) k 0 ≡ bound t (rowAt t k)
+unfolding bounds
+bounds-row t k u =
+    List·getD-append (map (bound t) (t .rows)) (replicate (mostRows - length (t .rows)) 0) 0 k (rw length-map (u .below)) ∙ getD-map-in (bound t) (t .rows) k noRow 0 (u .below)
 
-  within : i < length (rowsOf t)
-  within = rw (rows-length t long few) h
-
+module _ (t : Table) (long : length (t .rows) ≡ 32) (few : t .count ≤ mostRows) (i : ℕ) (h : i < t .count) where
   own-class : inClass (getD (t .rows) i noRow .class) (getD (rowsOf t) i noRow) ≡ true
-  own-class = rw row-at (same-self (getD (t .rows) i noRow .class))
+  own-class = rw (row-at t long few i h) (same-self (getD (t .rows) i noRow .class))
 
-  pub counted : 0 < members (getD (t .rows) i noRow .class) t
+  pub counted : 0 < members (getD (t .rows) i noRow .class) (contents t)
   unfolding members
-  counted = sum-at (getD (t .rows) i noRow .class) (λ r. 1) (rowsOf t) i noRow within own-class
+  counted = sum-at (getD (t .rows) i noRow .class) (λ r. 1) (rowsOf t) i noRow (in-use t i h .below) own-class
 
-  pub summed : sizeOf (getD (t .rows) i noRow) ≤ total (getD (t .rows) i noRow .class) t
+  pub summed : sizeOf (getD (t .rows) i noRow) ≤ total (getD (t .rows) i noRow .class) (contents t)
   unfolding total
-  summed = rw row-at at (sum-at (getD (t .rows) i noRow .class) sizeOf (rowsOf t) i noRow within own-class)
+  summed = rw (row-at t long few i h) at (sum-at (getD (t .rows) i noRow .class) sizeOf (rowsOf t) i noRow (in-use t i h .below) own-class)
 
-  pub bounds-at : getD (bounds t) i 0 ≡ bound t (getD (t .rows) i noRow)
-  unfolding bounds
-  bounds-at =
-      List·getD-append (map (bound t) (rowsOf t)) (replicate (32 - length (rowsOf t)) 0) 0 i (rw length-map within)
-      ∙ getD-map-in (bound t) (rowsOf t) i noRow 0 within
-      ∙ ap (bound t) row-at
+  pub bounds-at : getD (bounds (contents t)) i 0 ≡ bound (contents t) (getD (t .rows) i noRow)
+  bounds-at = bounds-row (contents t) i (in-use t i h) ∙ ap (bound (contents t)) (row-at t long few i h)

@@ -2,24 +2,13 @@
 use Prim.Native.Nat.{ℕ, zero, suc, _≤_, _<_}
 use mathlib.Core.Bool.{true}
 use mathlib.Core.List.{List, [], _∷_}
-use mathlib.Core.Path.{_≡_, refl}
+use mathlib.Core.Path.{_≡_}
 use native.Mathlib.Nat.{le-trans, le-add-left, le-max-right, le-of-suc-le-suc}
 use native.Mathlib.Omega.{arith}
 use lib.ListN.{length, getD}
-use Rattle.planner.specs.declared.Class.{Class}
-use Rattle.planner.specs.declared.Class.the-variants.{A, B}
-use Rattle.planner.specs.declared.Row.{Row}
-use Rattle.planner.specs.Rows.{sameClass, inClass, sumOver, maxOver}
-
-pub same-self : (c : Class) → sameClass c c ≡ true
-same-self A = refl
-same-self B = refl
-
-pub same-is : (c d : Class) → sameClass c d ≡ true → c ≡ d
-same-is A A e = refl
-same-is A B e = cc
-same-is B A e = cc
-same-is B B e = refl
+use Rattle.table.specs.declared.Class.{Class}
+use Rattle.table.specs.declared.Row.{Row}
+use Rattle.planner.specs.Sums.{inClass, sumOver, maxOver}
 
 module _ (c : Class) (f : Row → ℕ) where
   pub sum-at : (rs : List Row) (k : ℕ) (d : Row) → k < length rs → inClass c (getD rs k d) ≡ true → f (getD rs k d) ≤ sumOver c f rs

@@ -1,28 +1,30 @@
 -- A plan is right at each of its ends: a refusal by the check that decides, and acceptance.
-use Prim.Native.Nat.{ℕ}
+use Prim.Native.Nat.{ℕ, _≤_, _<_}
 use mathlib.Core.Bool.{true, false}
 use mathlib.Core.List.{List}
 use mathlib.Core.Path.{_≡_, refl, sym}
-use Rattle.planner.specs.declared.Class.the-variants.{A, B}
-use Rattle.planner.specs.declared.Table.{Table}
-use Rattle.planner.specs.declared.Found.the-variants.{At, Nothing}
-use Rattle.planner.specs.declared.Refusal.{Refusal}
-use Rattle.planner.specs.declared.Verdict.the-variants.{Accepted}
+use lib.ListN.{length}
+use borrow.Author.Tests.{le-leb, lt-leb}
+use Rattle.table.specs.declared.Class.the-variants.{A, B}
+use Rattle.table.specs.declared.Refusal.{Refusal}
+use Rattle.table.specs.declared.Verdict.the-variants.{Accepted}
+use Rattle.table.specs.Rows.{Contents}
+use Rattle.table.specs.Checks.{accepted, refused, numberOf, placeOf, passing}
+use Rattle.table.specs.Ranges.{ranged}
 use Rattle.planner.specs.declared.Lane.{Lane}
 use Rattle.planner.specs.declared.Plan.{Plan}
-use Rattle.planner.specs.Rows.{rowsOf}
 use Rattle.planner.specs.Bound.{bounds}
-use Rattle.planner.specs.Opening.{accepted, refused, numberOf, placeOf, firstFrom, slopesOk, sharesOk, timely, ranged, opening}
+use Rattle.planner.specs.Opening.{slopesOk, sharesOk, timely, opening}
 use Rattle.planner.specs.Plan.{laneOf, Planned}
 use Rattle.planner.specs.Steps.{refusedPlan, Passed}
 
-pub refused-right : (t : Table) (r : Refusal) {p : Plan} → opening t ≡ refused (numberOf r) (placeOf r) → p ≡ refusedPlan r → Planned t p
-refused-right t r e f = rw f (record { verdict = sym e; a = rw e refl; b = rw e refl; bounds = rw e refl })
+module _ (t : Contents) where
+  pub refused-right : (r : Refusal) {p : Plan} → opening t ≡ refused (numberOf r) (placeOf r) → p ≡ refusedPlan r → Planned t p
+  refused-right r e f = rw f (record { verdict = sym e; a = rw e refl; b = rw e refl; bounds = rw e refl })
 
-pub accepted-right : (t : Table) {a b : Lane} {bs : List ℕ} → opening t ≡ accepted → a ≡ laneOf A t → b ≡ laneOf B t → bs ≡ bounds t → Planned t (record { verdict = Accepted; a = a; b = b; bounds = bs })
-accepted-right t e ea eb es = record { verdict = sym e; a = rw e ea; b = rw e eb; bounds = rw e es }
+  pub accepted-right : {a b : Lane} {bs : List ℕ} → opening t ≡ accepted → a ≡ laneOf A t → b ≡ laneOf B t → bs ≡ bounds t → Planned t (record { verdict = Accepted; a = a; b = b; bounds = bs })
+  accepted-right e ea eb es = record { verdict = sym e; a = rw e ea; b = rw e eb; bounds = rw e es }
 
-module _ (t : Table) where
   pub by-range : {n p : ℕ} → ranged t ≡ refused n p → opening t ≡ refused n p
   unfolding opening
   by-range e = rw e refl
@@ -39,10 +41,11 @@ module _ (t : Table) where
   unfolding opening
   by-shares-b e f g h = rw (e, f, g, h) refl
 
-  pub by-deadline : {k : ℕ} → Passed t → firstFrom 0 (timely t) (rowsOf t) ≡ At k → opening t ≡ refused 10 k
-  unfolding opening
-  by-deadline p f = rw (p .ranged, p .slopes, p .shares-a, p .shares-b, f) refl
+  module _ (p : Passed t) {k : ℕ} (e : k ≡ passing (timely t) (t .rows)) where
+    pub by-deadline : k < length (t .rows) → opening t ≡ refused 10 k
+    unfolding opening
+    by-deadline h = rw (p .ranged, p .slopes, p .shares-a, p .shares-b, ← e, lt-leb _ _ h) refl
 
-  pub by-none : Passed t → firstFrom 0 (timely t) (rowsOf t) ≡ Nothing → opening t ≡ accepted
-  unfolding opening
-  by-none p f = rw (p .ranged, p .slopes, p .shares-a, p .shares-b, f) refl
+    pub by-none : length (t .rows) ≤ k → opening t ≡ accepted
+    unfolding opening
+    by-none h = rw (p .ranged, p .slopes, p .shares-a, p .shares-b, ← e, le-leb _ _ h) refl

@@ -2,25 +2,27 @@
 use Prim.Native.Nat.{ℕ, _≤_, _<_}
 use mathlib.Core.Bool.{true}
 use mathlib.Core.Logic.{⊎-elim}
-use mathlib.Core.Path.{_≡_, refl, _∙_}
-use native.Mathlib.Nat.{eq-zero-or-pos}
+use mathlib.Core.Path.{_≡_, sym, _∙_}
+use native.Mathlib.Nat.{eq-zero-or-pos, sub-zero}
 use native.Mathlib.Omega.{arith}
 use lib.Dec.{eqb}
 use lib.ListN.{length, getD}
 use borrow.Author.Tests.{eq-eqb, eqb-true}
-use Rattle.planner.specs.declared.Class.{Class}
-use Rattle.planner.specs.declared.Class.the-variants.{A, B}
-use Rattle.planner.specs.declared.Table.{Table}
+use Rattle.table.specs.declared.Class.{Class}
+use Rattle.table.specs.declared.Class.the-variants.{A, B}
+use Rattle.table.specs.declared.Table.{Table}
 use Rattle.planner.specs.declared.Lane.{Lane}
-use Rattle.planner.specs.Wire.{sizeOf}
-use Rattle.planner.specs.Rows.{noRow, members, idle}
-use Rattle.planner.specs.Bound.{boundIn, bound}
+use Rattle.table.specs.Limits.{mostRows}
+use Rattle.table.specs.Wire.{sizeOf}
+use Rattle.table.specs.Rows.{noRow, Contents, contents}
+use Rattle.planner.specs.Sums.{members, idle}
+use Rattle.planner.specs.Bound.{residenceIn, residence, bound}
 use Rattle.planner.specs.Opening.{usedOk}
 use Rattle.planner.specs.Plan.{laneOf}
 use Rattle.planner.specs.Steps.{pickLane, boundWith, Modest, Lanes}
 use Rattle.planner.proofs.Limits.{counted, summed}
 
-picked : (k : Class) (t : Table) {a b : Lane} → a ≡ laneOf A t → b ≡ laneOf B t → pickLane k a b ≡ laneOf k t
+picked : (k : Class) (t : Contents) {a b : Lane} → a ≡ laneOf A t → b ≡ laneOf B t → pickLane k a b ≡ laneOf k t
 picked A t ea eb = ea
 picked B t ea eb = eb
 
@@ -28,12 +30,12 @@ modest : (k : Class) {a b : Lane} → Modest a → Modest b → Modest (pickLane
 modest A ma mb = ma
 modest B ma mb = mb
 
-used-both : (k : Class) (t : Table) → usedOk A t ≡ true → usedOk B t ≡ true → usedOk k t ≡ true
+used-both : (k : Class) (t : Contents) → usedOk A t ≡ true → usedOk B t ≡ true → usedOk k t ≡ true
 used-both A t a b = a
 used-both B t a b = b
 
 -- a class with a row has an idle slope
-pub class-used : (k : Class) (t : Table) → usedOk k t ≡ true → 0 < members k t → 0 < idle k t
+class-used : (k : Class) (t : Contents) → usedOk k t ≡ true → 0 < members k t → 0 < idle k t
 unfolding usedOk
 class-used k t e m =
     ⊎-elim
@@ -43,17 +45,17 @@ class-used k t e m =
     (λ p. p)
     (eq-zero-or-pos (idle k t))
 
-module _ (t : Table) (long : length (t .rows) ≡ 32) (few : t .count ≤ 32) (i : ℕ) (h : i < t .count) {a b l : Lane} {s : ℕ} (ready : Lanes t a b) (el : l ≡ pickLane (getD (t .rows) i noRow .class) a b) (es : s ≡ sizeOf (getD (t .rows) i noRow)) where
-  is-lane : l ≡ laneOf (getD (t .rows) i noRow .class) t
-  is-lane = el ∙ picked (getD (t .rows) i noRow .class) t (ready .is-a) (ready .is-b)
+module _ (t : Table) (long : length (t .rows) ≡ 32) (few : t .count ≤ mostRows) (i : ℕ) (h : i < t .count) {a b l : Lane} {s : ℕ} (ready : Lanes (contents t) a b) (el : l ≡ pickLane (getD (t .rows) i noRow .class) a b) (es : s ≡ sizeOf (getD (t .rows) i noRow)) where
+  is-lane : l ≡ laneOf (getD (t .rows) i noRow .class) (contents t)
+  is-lane = el ∙ picked (getD (t .rows) i noRow .class) (contents t) (ready .is-a) (ready .is-b)
 
   pub bound-ready : Modest l × ((0 < l .idle) × (s ≤ l .total))
   bound-ready =
       let k = getD (t .rows) i noRow .class in (
         rw el (modest k (ready .modest-a) (ready .modest-b)),
-        (rw is-lane (class-used k t (used-both k t (ready .used-a) (ready .used-b)) (counted t long few i h)), rw (is-lane, es) (summed t long few i h)),
+        (rw is-lane (class-used k (contents t) (used-both k (contents t) (ready .used-a) (ready .used-b)) (counted t long few i h)), rw (is-lane, es) (summed t long few i h)),
       )
 
-  pub bound-worked : boundWith s l ≡ bound t (getD (t .rows) i noRow)
-  unfolding bound boundIn
-  bound-worked = rw (is-lane, es) refl
+  pub bound-worked : boundWith s l ≡ bound (contents t) (getD (t .rows) i noRow)
+  unfolding bound residence residenceIn
+  bound-worked = rw (is-lane, es) (sym (sub-zero _))

@@ -1,6 +1,5 @@
--- What the planner's contracts mean: document 01's rules on wire sizes, tables, bounds and opening.
-pub mod Wire
-pub mod Rows
+-- What the planner works out: sums over a class, blocking, bounds, and acceptance.
+pub mod Sums
 pub mod Bound
 pub mod Opening
 pub mod Plan

@@ -3,18 +3,20 @@ use Prim.Native.Nat.{ℕ}
 use mathlib.Core.List.{List}
 use mathlib.Core.Path.{_≡_}
 use lib.ListN.{replicate}
-use Rattle.planner.specs.declared.Class.{Class}
-use Rattle.planner.specs.declared.Class.the-variants.{A, B}
-use Rattle.planner.specs.declared.Table.{Table}
+use Rattle.table.specs.declared.Class.{Class}
+use Rattle.table.specs.declared.Class.the-variants.{A, B}
+use Rattle.table.specs.Limits.{mostRows}
+use Rattle.table.specs.Rows.{Contents}
+use Rattle.table.specs.Checks.{Outcome, accepted, refused, outcomeOf}
 use Rattle.planner.specs.declared.Lane.{Lane}
 use Rattle.planner.specs.declared.Plan.{Plan}
 use Rattle.planner.specs.declared.Sheet.{Sheet}
-use Rattle.planner.specs.Rows.{idle, largest, total}
+use Rattle.planner.specs.Sums.{idle, largest, total}
 use Rattle.planner.specs.Bound.{blocking, bounds}
-use Rattle.planner.specs.Opening.{Outcome, accepted, refused, outcomeOf, opening}
+use Rattle.planner.specs.Opening.{opening}
 
 -- What a class's bounds are made of.
-abbrev pub laneOf : Class → Table → Lane
+abbrev pub laneOf : Class → Contents → Lane
 laneOf c t = record { idle = idle c t; largest = largest c t; total = total c t; blocking = blocking c t }
 
 -- A class of a refused table: zeros.
@@ -22,23 +24,26 @@ abbrev pub noLane : Lane
 noLane = record { idle = 0; largest = 0; total = 0; blocking = 0 }
 
 -- An accepted table's classes; zeros at a refusal.
-abbrev pub laneAt : Outcome → Class → Table → Lane
+abbrev pub laneAt : Outcome → Class → Contents → Lane
 laneAt accepted c t = laneOf c t
 laneAt (refused n p) c t = noLane
 
 -- An accepted table's bounds; zeros at a refusal.
-abbrev pub boundsAt : Outcome → Table → List ℕ
+abbrev pub noBounds : List ℕ
+noBounds = replicate mostRows 0
+
+abbrev pub boundsAt : Outcome → Contents → List ℕ
 boundsAt accepted t = bounds t
-boundsAt (refused n p) t = replicate 32 0
+boundsAt (refused n p) t = noBounds
 
 -- The answer of `plan`: what opening says, and an accepted table's classes and bounds, zeros at a refusal.
-pub record Planned (t : Table) (r : Plan) : Type 0 where
+pub record Planned (t : Contents) (r : Plan) : Type 0 where
   pub verdict : outcomeOf (r .verdict) ≡ opening t
   pub a : r .a ≡ laneAt (opening t) A t
   pub b : r .b ≡ laneAt (opening t) B t
   pub bounds : r .bounds ≡ boundsAt (opening t) t
 
 -- The answer of `bounds`: what opening says, and an accepted table's bounds, zeros at a refusal.
-pub record Shown (t : Table) (r : Sheet) : Type 0 where
+pub record Shown (t : Contents) (r : Sheet) : Type 0 where
   pub verdict : outcomeOf (r .verdict) ≡ opening t
   pub bounds : r .bounds ≡ boundsAt (opening t) t

@@ -1,39 +1,43 @@
 -- What the planner's private functions promise each other. No public promise cites this file.
 use Prim.Native.Nat.{ℕ, _+_, _-_, _*_, _/_, _≤_, max}
-use mathlib.Core.Bool.{true}
+use mathlib.Core.Bool.{Bool, true, _&&_}
 use mathlib.Core.Path.{_≡_}
-use lib.ListN.{replicate}
-use Rattle.planner.specs.declared.Class.{Class}
-use Rattle.planner.specs.declared.Class.the-variants.{A, B}
-use Rattle.planner.specs.declared.Row.{Row}
-use Rattle.planner.specs.declared.Table.{Table}
+use lib.Dec.{leb, eqb}
+use Rattle.table.specs.declared.Class.{Class}
+use Rattle.table.specs.declared.Class.the-variants.{A, B}
+use Rattle.table.specs.declared.Row.{Row}
+use Rattle.table.specs.declared.Header.{Header}
+use Rattle.table.specs.declared.Refusal.{Refusal}
+use Rattle.table.specs.declared.Verdict.the-variants.{Refused}
+use Rattle.table.specs.Limits.{D, mostRows, mostSlope, anySize}
+use Rattle.table.specs.Wire.{ceilDiv, wireSize, sizeOf, shareOf}
+use Rattle.table.specs.Rows.{Contents}
+use Rattle.table.specs.Checks.{accepted}
+use Rattle.table.specs.Ranges.{ranged}
 use Rattle.planner.specs.declared.Figures.{Figures}
 use Rattle.planner.specs.declared.Lane.{Lane}
-use Rattle.planner.specs.declared.Refusal.{Refusal}
-use Rattle.planner.specs.declared.Verdict.the-variants.{Refused}
 use Rattle.planner.specs.declared.Plan.{Plan}
-use Rattle.planner.specs.Wire.{D, sizeOf, shareOf}
-use Rattle.planner.specs.Rows.{part, members, largest, total, shares}
-use Rattle.planner.specs.Opening.{accepted, ranged, usedOk, slopesOk, sharesOk}
-use Rattle.planner.specs.Plan.{laneOf, noLane}
+use Rattle.planner.specs.Sums.{part, members, largest, total, shares}
+use Rattle.planner.specs.Opening.{sameTest, usedOk, slopesOk, sharesOk}
+use Rattle.planner.specs.Plan.{laneOf, noLane, noBounds}
 
 -- A class's figures, in one record.
-abbrev pub figuresOf : Class → Table → Figures
+abbrev pub figuresOf : Class → Contents → Figures
 figuresOf c t = record { members = members c t; largest = largest c t; total = total c t; shares = shares c t }
 
 -- Figures of at most n rows, whatever the rows hold: no sum of them is large.
 pub record Small (n : ℕ) (f : Figures) : Type 0 where
   pub members : f .members ≤ n
-  pub largest : f .largest ≤ 65577
-  pub total : f .total ≤ n * 65577
-  pub shares : f .shares ≤ n * 65577000000
+  pub largest : f .largest ≤ anySize
+  pub total : f .total ≤ n * anySize
+  pub shares : f .shares ≤ n * (D * anySize)
 
 -- How far one row can move the figures, whatever it holds.
 pub record Grown (f r : Figures) : Type 0 where
   pub members : r .members ≤ f .members + 1
-  pub largest : r .largest ≤ max (f .largest) 65577
-  pub total : r .total ≤ f .total + 65577
-  pub shares : r .shares ≤ f .shares + 65577000000
+  pub largest : r .largest ≤ max (f .largest) anySize
+  pub total : r .total ≤ f .total + anySize
+  pub shares : r .shares ≤ f .shares + D * anySize
 
 -- The figures with one row more.
 abbrev pub joined : Figures → Class → Row → Figures
@@ -44,6 +48,16 @@ joined f c r =
       total = f .total + part c sizeOf r;
       shares = f .shares + part c shareOf r;
     }
+
+-- Rule 8 and a class's bounds, from the header and both classes' figures.
+abbrev pub slopesBy : Header → Figures → Figures → Bool
+slopesBy h a b = (sameTest (eqb (h .idlea) 0) (eqb (a .members) 0) && sameTest (eqb (h .idleb) 0) (eqb (b .members) 0)) && leb (h .idlea + h .idleb) mostSlope
+
+abbrev pub laneA : Header → Figures → Figures → Lane
+laneA h a b = record { idle = h .idlea; largest = a .largest; total = a .total; blocking = max (b .largest) (wireSize (h .payload)) }
+
+abbrev pub laneB : Header → Figures → Figures → Lane
+laneB h a b = record { idle = h .idleb; largest = b .largest; total = b .total; blocking = a .largest + ceilDiv (max (D * wireSize (h .payload)) (h .idlea * b .largest)) (D - h .idlea) }
 
 -- A row's bound, from its wire size and its class.
 abbrev pub boundWith : ℕ → Lane → ℕ
@@ -56,17 +70,17 @@ pickLane B a b = b
 
 -- A refusal, with zeros for figures.
 abbrev pub refusedPlan : Refusal → Plan
-refusedPlan r = record { verdict = Refused r; a = noLane; b = noLane; bounds = replicate 32 0 }
+refusedPlan r = record { verdict = Refused r; a = noLane; b = noLane; bounds = noBounds }
 
 -- The figures of both classes.
-pub record Summed (t : Table) (a b : Figures) : Type 0 where
+pub record Summed (t : Contents) (a b : Figures) : Type 0 where
   pub is-a : a ≡ figuresOf A t
   pub is-b : b ≡ figuresOf B t
-  pub small-a : Small 32 a
-  pub small-b : Small 32 b
+  pub small-a : Small mostRows a
+  pub small-b : Small mostRows b
 
 -- The checks before rule 10 have passed.
-pub record Passed (t : Table) : Type 0 where
+pub record Passed (t : Contents) : Type 0 where
   pub ranged : ranged t ≡ accepted
   pub slopes : slopesOk t ≡ true
   pub shares-a : sharesOk A t ≡ true
@@ -74,14 +88,13 @@ pub record Passed (t : Table) : Type 0 where
 
 -- No number of a class is large, whatever its rows hold. (The header check is what limits the idle slope.)
 pub record Modest (l : Lane) : Type 0 where
-  pub idle : l .idle ≤ 750000
-  pub largest : l .largest ≤ 65577
-  pub total : l .total ≤ 2098464
-  pub blocking : l .blocking ≤ 65577065577
+  pub idle : l .idle ≤ mostSlope
+  pub largest : l .largest ≤ anySize
+  pub total : l .total ≤ mostRows * anySize
+  pub blocking : l .blocking ≤ anySize + D * anySize
 
 -- Both classes of a table whose slopes are 0 exactly where a class has no row.
-pub record Lanes (t : Table) (a b : Lane) : Type 0 where
-  pub few : t .count ≤ 32
+pub record Lanes (t : Contents) (a b : Lane) : Type 0 where
   pub is-a : a ≡ laneOf A t
   pub is-b : b ≡ laneOf B t
   pub modest-a : Modest a

@@ -2,27 +2,30 @@
 ghost use mathlib.Core.Path.{_≡_};
 ghost use Prim.Native.Nat.{_≤_, _<_};
 ghost use lib.Dec.{eqb};
-ghost use Rattle.planner.specs.declared.Class.{Class};
-ghost use Rattle.planner.specs.Rows.{rowsOf};
+ghost use Rattle.table.specs.Limits.{mostRows, mostSlope};
+ghost use Rattle.table.specs.Rows.{rowsOf, contents};
+ghost use Rattle.table.specs.Checks.{passing};
 ghost use Rattle.planner.specs.Bound.{bounds};
-ghost use Rattle.planner.specs.Opening.{sameTest, slopesOk, timely, firstFrom};
-ghost use Rattle.planner.specs.Plan.{laneOf, Planned};
-ghost use Rattle.planner.specs.Steps.{pickLane, boundWith, refusedPlan, Summed, Passed, Modest, Lanes};
-use crate::Class;
+ghost use Rattle.planner.specs.Opening.{sameTest, timely};
+ghost use Rattle.planner.specs.Plan.{Planned};
+ghost use Rattle.planner.specs.Steps.{Small, slopesBy, laneA, laneB, pickLane, boundWith, refusedPlan, Summed, Passed, Modest, Lanes};
 use crate::Figures;
-use crate::Found;
 use crate::Lane;
 use crate::Plan;
-use crate::Refusal;
-use crate::Table;
-use crate::Verdict;
-use crate::quotient::ceil_div;
-use crate::quotient::larger;
-use crate::ranges::ranges;
 use crate::sums::figures;
-use crate::wire::D;
-use crate::wire::size;
-use crate::wire::wire_size;
+use table::Class;
+use table::Header;
+use table::ROWS;
+use table::Refusal;
+use table::Table;
+use table::Verdict;
+use table::quotient::ceil_div;
+use table::quotient::larger;
+use table::ranges::MOST_SLOPE;
+use table::ranges::ranges;
+use table::wire::D;
+use table::wire::size;
+use table::wire::wire_size;
 
 // A class's idle slope is 0 exactly if it has no row.
 fn used_ok(idle: u32, members: u64) -> bool
@@ -34,29 +37,29 @@ fn used_ok(idle: u32, members: u64) -> bool
     members != 0
 }
 
-fn slopes_ok(t: Table, a: Figures, b: Figures) -> bool
-    requires { ⌜ Summed t a b ⌝ }
-    ensures { λ r. ⌜ r ≡ slopesOk t ⌝ }
+fn slopes_ok(h: Header, a: Figures, b: Figures) -> bool
+    ensures { λ r. ⌜ r ≡ slopesBy h a b ⌝ }
 {
-    if !used_ok(t.idlea, a.members) {
+    if !used_ok(h.idlea, a.members) {
         return false;
     }
-    if !used_ok(t.idleb, b.members) {
+    if !used_ok(h.idleb, b.members) {
         return false;
     }
-    t.idlea as u64 + t.idleb as u64 <= 750_000
+    h.idlea as u64 + h.idleb as u64 <= MOST_SLOPE as u64
 }
 
 // Class A waits for the largest frame of B or of best effort.
-fn lane_a(t: Table, a: Figures, b: Figures) -> Lane
-    requires { ⌜ Summed t a b ⌝ }
-    requires { ⌜ t .idlea ≤ 750000 ⌝ }
-    ensures { λ r. ⌜ r ≡ laneOf Class.A t ⌝ }
+fn lane_a(h: Header, a: Figures, b: Figures) -> Lane
+    requires { ⌜ h .idlea ≤ mostSlope ⌝ }
+    requires { ⌜ Small 32 a ⌝ }
+    requires { ⌜ Small 32 b ⌝ }
+    ensures { λ r. ⌜ r ≡ laneA h a b ⌝ }
     ensures modest { λ r. ⌜ Modest r ⌝ }
 {
-    let best = wire_size(t.payload);
+    let best = wire_size(h.payload);
     Lane {
-        idle: t.idlea as u64,
+        idle: h.idlea as u64,
         largest: a.largest,
         total: a.total,
         blocking: larger(b.largest, best),
@@ -64,18 +67,19 @@ fn lane_a(t: Table, a: Figures, b: Figures) -> Lane
 }
 
 // Class B waits for the largest frame of A, and while A sends what it saved up behind a frame of B or of best effort.
-fn lane_b(t: Table, a: Figures, b: Figures) -> Lane
-    requires { ⌜ Summed t a b ⌝ }
-    requires { ⌜ t .idlea ≤ 750000 ⌝ }
-    requires { ⌜ t .idleb ≤ 750000 ⌝ }
-    ensures { λ r. ⌜ r ≡ laneOf Class.B t ⌝ }
+fn lane_b(h: Header, a: Figures, b: Figures) -> Lane
+    requires { ⌜ h .idlea ≤ mostSlope ⌝ }
+    requires { ⌜ h .idleb ≤ mostSlope ⌝ }
+    requires { ⌜ Small 32 a ⌝ }
+    requires { ⌜ Small 32 b ⌝ }
+    ensures { λ r. ⌜ r ≡ laneB h a b ⌝ }
     ensures modest { λ r. ⌜ Modest r ⌝ }
 {
-    let best = wire_size(t.payload);
-    let ia = t.idlea as u64;
+    let best = wire_size(h.payload);
+    let ia = h.idlea as u64;
     let saved = larger(D * best, ia * b.largest);
     Lane {
-        idle: t.idleb as u64,
+        idle: h.idleb as u64,
         largest: b.largest,
         total: b.total,
         blocking: a.largest + ceil_div(saved, D - ia),
@@ -102,12 +106,13 @@ fn row_bound(c: u64, l: Lane) -> u64
     c + l.blocking + (D * (l.total - c) + send * l.largest) / l.idle
 }
 
-fn row_bounds(t: Table, a: Lane, b: Lane) -> [u64; 32]
-    requires { ⌜ Lanes t a b ⌝ }
-    ensures { λ r. ⌜ r ≡ bounds t ⌝ }
+fn row_bounds(t: Table, a: Lane, b: Lane) -> [u64; ROWS]
+    requires { ⌜ t .count ≤ mostRows ⌝ }
+    requires { ⌜ Lanes (contents t) a b ⌝ }
+    ensures { λ r. ⌜ r ≡ bounds (contents t) ⌝ }
 {
     let n = t.count;
-    let mut out = [0u64; 32];
+    let mut out = [0u64; ROWS];
     let mut i: usize = 0;
     while i < n {
         let row = t.rows[i];
@@ -120,10 +125,11 @@ fn row_bounds(t: Table, a: Lane, b: Lane) -> [u64; 32]
     out
 }
 
-fn first_late(t: Table, limits: [u64; 32]) -> Found
-    requires { ⌜ t .count ≤ 32 ⌝ }
-    requires { ⌜ limits ≡ bounds t ⌝ }
-    ensures { λ r. ⌜ r ≡ firstFrom 0 (timely t) (rowsOf t) ⌝ }
+// How many rows have a bound within their deadline before the first that has not.
+fn in_time(t: Table, limits: [u64; ROWS]) -> usize
+    requires { ⌜ t .count ≤ mostRows ⌝ }
+    requires { ⌜ limits ≡ bounds (contents t) ⌝ }
+    ensures { λ r. ⌜ r ≡ passing (timely (contents t)) (rowsOf t) ⌝ }
 {
     let n = t.count;
     let mut i: usize = 0;
@@ -131,11 +137,11 @@ fn first_late(t: Table, limits: [u64; 32]) -> Found
         let this = t.rows[i];
         let limit = limits[i];
         if (this.deadline as u64) < limit {
-            return Found::At(i);
+            return i;
         }
         i += 1;
     }
-    Found::Nothing
+    i
 }
 
 // A refusal, with zeros for figures.
@@ -152,20 +158,22 @@ fn refused(r: Refusal) -> Plan
         verdict: Verdict::Refused(r),
         a: none,
         b: none,
-        bounds: [0; 32],
+        bounds: [0; ROWS],
     }
 }
 
 // The plan of a table that only a late row can still have refused.
 fn timely_plan(t: Table, f: Figures, g: Figures) -> Plan
-    requires { ⌜ Summed t f g ⌝ }
-    requires { ⌜ Passed t ⌝ }
-    ensures { λ r. ⌜ Planned t r ⌝ }
+    requires { ⌜ Summed (contents t) f g ⌝ }
+    requires { ⌜ Passed (contents t) ⌝ }
+    ensures { λ r. ⌜ Planned (contents t) r ⌝ }
 {
-    let a = lane_a(t, f, g);
-    let b = lane_b(t, f, g);
+    let h = t.header;
+    let a = lane_a(h, f, g);
+    let b = lane_b(h, f, g);
     let bounds = row_bounds(t, a, b);
-    if let Found::At(row) = first_late(t, bounds) {
+    let row = in_time(t, bounds);
+    if row < t.count {
         return refused(Refusal::Deadline(row));
     }
     Plan {
@@ -178,20 +186,21 @@ fn timely_plan(t: Table, f: Figures, g: Figures) -> Plan
 
 // A table's verdict, and of an accepted table its classes and the bound of each row.
 pub fn plan(t: Table) -> Plan
-    ensures { λ r. ⌜ Planned t r ⌝ }
+    ensures { λ r. ⌜ Planned (contents t) r ⌝ }
 {
+    let h = t.header;
     if let Verdict::Refused(r) = ranges(t) {
         return refused(r);
     }
     let a = figures(t, Class::A);
     let b = figures(t, Class::B);
-    if !slopes_ok(t, a, b) {
+    if !slopes_ok(h, a, b) {
         return refused(Refusal::Slopes);
     }
-    if (t.idlea as u64) < a.shares {
+    if (h.idlea as u64) < a.shares {
         return refused(Refusal::Shares(Class::A));
     }
-    if (t.idleb as u64) < b.shares {
+    if (h.idleb as u64) < b.shares {
         return refused(Refusal::Shares(Class::B));
     }
     timely_plan(t, a, b)

@@ -1,15 +1,17 @@
 // The figures of a class: its rows taken together.
 ghost use mathlib.Core.Path.{_≡_};
 ghost use Prim.Native.Nat.{_≤_};
+ghost use Rattle.table.specs.Limits.{mostRows};
+ghost use Rattle.table.specs.Rows.{contents};
 ghost use Rattle.planner.specs.Steps.{figuresOf, joined, Small, Grown};
-use crate::Class;
 use crate::Figures;
-use crate::Row;
-use crate::Table;
-use crate::quotient::larger;
-use crate::wire::same_class;
-use crate::wire::share;
-use crate::wire::size;
+use table::Class;
+use table::Row;
+use table::Table;
+use table::classes::same_class;
+use table::quotient::larger;
+use table::wire::share;
+use table::wire::size;
 
 // The figures with one row more, if it is in the class.
 fn with_row(f: Figures, class: Class, row: Row) -> Figures
@@ -32,8 +34,8 @@ fn with_row(f: Figures, class: Class, row: Row) -> Figures
 
 // A class's figures over the rows of a table.
 pub fn figures(t: Table, class: Class) -> Figures
-    requires { ⌜ t .count ≤ 32 ⌝ }
-    ensures { λ r. ⌜ r ≡ figuresOf class t ⌝ }
+    requires { ⌜ t .count ≤ mostRows ⌝ }
+    ensures { λ r. ⌜ r ≡ figuresOf class (contents t) ⌝ }
     ensures small { λ r. ⌜ Small 32 r ⌝ }
 {
     let n = t.count;

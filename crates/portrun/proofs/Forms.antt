@@ -5,14 +5,14 @@ use mathlib.Core.Path.{_≡_, refl, _∙_, ap}
 use native.Mathlib.Omega.{arith}
 use Rattle.machine.specs.State.{State}
 use Rattle.machine.specs.Calls.{answer, after}
-use Rattle.portrun.specs.declared.lines.Call.{Call}
-use Rattle.portrun.specs.declared.lines.Wanted.{Wanted}
-use Rattle.portrun.specs.declared.lines.Wanted.the-variants.{Row, Payload, Best, Count}
-use Rattle.portrun.specs.declared.lines.Line.the-variants.{Empty, Space, Digits}
-use Rattle.portrun.specs.Lines.{grown}
+use Rattle.texts.specs.declared.lines.Call.{Call}
+use Rattle.texts.specs.declared.lines.Wanted.{Wanted}
+use Rattle.texts.specs.declared.lines.Wanted.the-variants.{Row, Payload, Best, Count}
+use Rattle.texts.specs.declared.lines.Line.the-variants.{Empty, Space, Digits}
+use Rattle.texts.specs.Lines.{grown}
 use Rattle.portrun.specs.Forms.{Number, digit, more, valueFrom, stated, Form, offer, best, advance}
 use Rattle.portrun.specs.Answers.{answerOf, callOf}
-use Rattle.portrun.specs.Text.{lineOf}
+use Rattle.texts.specs.Text.{lineOf}
 use Rattle.portrun.specs.Runs.{printed, told}
 use Rattle.portrun.proofs.Runs.{next-byte}
 

@@ -1,5 +1,4 @@
-pub mod Digits
+-- Laws that belong to no one function.
 pub mod Forms
 pub mod OtherForms
 pub mod Runs
-pub mod Texts

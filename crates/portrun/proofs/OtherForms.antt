@@ -6,15 +6,15 @@ use mathlib.Core.Path.{_≡_, refl, sym, subst, _∙_, ap}
 use lib.Dec.{eqb}
 use borrow.Author.Tests.{eqb-true, ne-eqb}
 use Rattle.machine.specs.State.{State}
-use Rattle.portrun.specs.declared.lines.Call.{Call}
-use Rattle.portrun.specs.declared.lines.Call.the-variants as calls
-use Rattle.portrun.specs.declared.lines.Wanted.{Wanted}
-use Rattle.portrun.specs.declared.lines.Wanted.the-variants.{Row, Payload, Best, Count}
-use Rattle.portrun.specs.declared.lines.Line.{Line}
-use Rattle.portrun.specs.declared.lines.Line.the-variants.{Empty, Letter, Space, Digits}
-use Rattle.portrun.specs.declared.lines.Stepped.{Stepped}
-use Rattle.portrun.specs.declared.lines.Stepped.the-variants.{More, Whole, Other}
-use Rattle.portrun.specs.Lines.{isDigit, grown, spacedOf, endedOf, stepOf}
+use Rattle.texts.specs.declared.lines.Call.{Call}
+use Rattle.texts.specs.declared.lines.Call.the-variants as calls
+use Rattle.texts.specs.declared.lines.Wanted.{Wanted}
+use Rattle.texts.specs.declared.lines.Wanted.the-variants.{Row, Payload, Best, Count}
+use Rattle.texts.specs.declared.lines.Line.{Line}
+use Rattle.texts.specs.declared.lines.Line.the-variants.{Empty, Letter, Space, Digits}
+use Rattle.texts.specs.declared.lines.Stepped.{Stepped}
+use Rattle.texts.specs.declared.lines.Stepped.the-variants.{More, Whole, Other}
+use Rattle.texts.specs.Lines.{isDigit, grown, spacedOf, endedOf, stepOf}
 use Rattle.portrun.specs.Runs.{Told, onStep, told}
 use Rattle.portrun.specs.Forms.{Number, digit, more, stated, Form, offer, best, advance, NoEnd, Stops}
 use Rattle.portrun.proofs.Forms.{grownFrom, grown-value}

@@ -8,15 +8,15 @@ use lib.ListN.{length, take, drop, getD, drop-of-length-le}
 use lib.Seq.{drop-cons}
 use Rattle.machine.specs.State.{State, view}
 use Rattle.machine.specs.Calls.{answer, after}
-use Rattle.portrun.specs.declared.lines.Call.{Call}
-use Rattle.portrun.specs.declared.lines.Line.{Line}
-use Rattle.portrun.specs.declared.lines.Line.the-variants.{Empty}
-use Rattle.portrun.specs.declared.lines.Stepped.{Stepped}
-use Rattle.portrun.specs.declared.lines.Stepped.the-variants.{More, Whole, Other}
+use Rattle.texts.specs.declared.lines.Call.{Call}
+use Rattle.texts.specs.declared.lines.Line.{Line}
+use Rattle.texts.specs.declared.lines.Line.the-variants.{Empty}
+use Rattle.texts.specs.declared.lines.Stepped.{Stepped}
+use Rattle.texts.specs.declared.lines.Stepped.the-variants.{More, Whole, Other}
 use Rattle.portrun.specs.declared.answers.AfterCall.{AfterCall}
-use Rattle.portrun.specs.Lines.{stepOf}
+use Rattle.texts.specs.Lines.{stepOf}
 use Rattle.portrun.specs.Answers.{answerOf, callOf, Made}
-use Rattle.portrun.specs.Text.{lineOf, Put}
+use Rattle.texts.specs.Text.{lineOf, Put}
 use Rattle.portrun.specs.Runs.{Told, printed, onStep, told, goingOn}
 
 none-left : (s : State) (l : Line) → told [] s l ≡ record { text = []; state = s; line = l; live = true }

@@ -3,12 +3,13 @@ use Prim.Native.Nat.{ℕ}
 use mathlib.Core.Path.{_≡_}
 use Rattle.machine.specs.declared.Ended.{Ended}
 use Rattle.machine.specs.declared.Ended.the-variants.{Reported, Nothing}
+use Rattle.machine.specs.Limits.{noMark}
 use Rattle.machine.specs.State.{State, view}
 use Rattle.machine.specs.Calls as machine
-use Rattle.portrun.specs.declared.lines.Call.{Call}
-use Rattle.portrun.specs.declared.lines.Call.the-variants.{Offer, Best, Advance}
-use Rattle.portrun.specs.declared.answers.Answer.{Answer}
-use Rattle.portrun.specs.declared.answers.Answer.the-variants.{Refused, Passed}
+use Rattle.texts.specs.declared.lines.Call.{Call}
+use Rattle.texts.specs.declared.lines.Call.the-variants.{Offer, Best, Advance}
+use Rattle.texts.specs.declared.text.Answer.{Answer}
+use Rattle.texts.specs.declared.text.Answer.the-variants.{Refused, Passed}
 use Rattle.portrun.specs.declared.answers.AfterCall.{AfterCall}
 
 -- The call of the machine that each case stands for.
@@ -20,11 +21,11 @@ callOf (Advance n) = machine.advance n
 -- The ended frame's row: 32 best effort, 33 none.
 abbrev pub rowOf : Ended → ℕ
 rowOf (Reported f) = f .source
-rowOf Nothing = 33
+rowOf Nothing = noMark
 
 -- `refused`, number, place; or `0`, byte-times passed, ended frame's row. An offer taken prints `0 0 33`.
 abbrev pub answerOf : machine.Answer → Answer
-answerOf machine.taken = Passed 0 33
+answerOf machine.taken = Passed 0 noMark
 answerOf (machine.passed n e) = Passed n (rowOf e)
 answerOf (machine.denied n p) = Refused n p
 

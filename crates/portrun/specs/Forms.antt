@@ -3,9 +3,9 @@ use Prim.Native.Nat.{ℕ, _+_, _-_, _*_, min}
 use mathlib.Core.Bool.{true, false}
 use mathlib.Core.List.{List, [], _∷_, _++_}
 use mathlib.Core.Path.{_≡_}
-use Rattle.portrun.specs.declared.lines.Call.{Call}
-use Rattle.portrun.specs.declared.lines.Call.the-variants.{Offer, Best, Advance}
-use Rattle.portrun.specs.Lines.{isDigit}
+use Rattle.texts.specs.declared.lines.Call.{Call}
+use Rattle.texts.specs.declared.lines.Call.the-variants.{Offer, Best, Advance}
+use Rattle.texts.specs.Lines.{isDigit}
 use Rattle.portrun.specs.Runs.{Told}
 
 -- Digits, one at least.

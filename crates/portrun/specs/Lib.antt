@@ -1,5 +1,4 @@
+-- What `portrun` makes of its input.
 pub mod Answers
 pub mod Forms
-pub mod Lines
 pub mod Runs
-pub mod Text

@@ -6,15 +6,15 @@ use mathlib.Core.Path.{_≡_}
 use lib.ListN.{length, take}
 use Rattle.machine.specs.State.{State, view}
 use Rattle.machine.specs.Calls.{answer, after}
-use Rattle.portrun.specs.declared.lines.Line.{Line}
-use Rattle.portrun.specs.declared.lines.Line.the-variants.{Empty}
-use Rattle.portrun.specs.declared.lines.Stepped.{Stepped}
-use Rattle.portrun.specs.declared.lines.Stepped.the-variants.{More, Whole, Other}
+use Rattle.texts.specs.declared.lines.Line.{Line}
+use Rattle.texts.specs.declared.lines.Line.the-variants.{Empty}
+use Rattle.texts.specs.declared.lines.Stepped.{Stepped}
+use Rattle.texts.specs.declared.lines.Stepped.the-variants.{More, Whole, Other}
 use Rattle.portrun.specs.declared.Run.{Run}
 use Rattle.portrun.specs.declared.Answered.{Answered}
-use Rattle.portrun.specs.Lines.{stepOf}
+use Rattle.texts.specs.Lines.{stepOf}
 use Rattle.portrun.specs.Answers.{answerOf, callOf}
-use Rattle.portrun.specs.Text.{lineOf}
+use Rattle.texts.specs.Text.{lineOf}
 
 -- The text printed, the port, the line so far, and whether more is read.
 pub record Told : Type 0 where

@@ -3,18 +3,14 @@ ghost use mathlib.Core.Path.{_≡_};
 ghost use Rattle.machine.specs.State.{view};
 ghost use Rattle.machine.specs.Calls.{offer, offerBest, advance, offerAnswer, advanceAnswer};
 ghost use Rattle.portrun.specs.Answers.{rowOf, answerOf, callOf, Made};
-use crate::lines::Call;
 use machine::Advance;
 use machine::Ended;
+use machine::NO_MARK;
 use machine::Offer;
 use machine::Port;
-use port::numbers::number;
-
-// An answer as it is printed: `refused`, number and place; or `0`, byte-times passed and the ended frame's row.
-pub enum Answer {
-    Refused(u64, u64),
-    Passed(u64, u64),
-}
+use machine::numbers::number;
+use texts::lines::Call;
+use texts::text::Answer;
 
 // What a call gives back.
 pub struct AfterCall {
@@ -27,7 +23,7 @@ fn row(e: Ended) -> u64
     ensures { λ r. ⌜ r ≡ rowOf e ⌝ }
 {
     let Ended::Reported(f) = e else {
-        return 33;
+        return NO_MARK as u64;
     };
     f.source as u64
 }
@@ -36,7 +32,7 @@ fn offered(o: Offer) -> Answer
     ensures { λ r. ⌜ r ≡ answerOf (offerAnswer o) ⌝ }
 {
     match o {
-        Offer::Taken => Answer::Passed(0, 33),
+        Offer::Taken => Answer::Passed(0, NO_MARK as u64),
         Offer::Refused(d) => Answer::Refused(number(d), 0),
     }
 }
@@ -53,7 +49,7 @@ fn advanced(a: Advance) -> Answer
 fn offer(p: Port, row: u64, payload: u64) -> AfterCall
     ensures { λ r. ⌜ Made (view p) (offer row payload) r ⌝ }
 {
-    let r = port::offers::offer(p, row, payload);
+    let r = offers::offers::offer(p, row, payload);
     let o = r.answer;
     let answer = offered(o);
     let port = r.port;
@@ -63,7 +59,7 @@ fn offer(p: Port, row: u64, payload: u64) -> AfterCall
 fn offer_best(p: Port, payload: u64) -> AfterCall
     ensures { λ r. ⌜ Made (view p) (offerBest payload) r ⌝ }
 {
-    let r = port::offers::offer_best(p, payload);
+    let r = offers::offers::offer_best(p, payload);
     let o = r.answer;
     let answer = offered(o);
     let port = r.port;
@@ -73,7 +69,7 @@ fn offer_best(p: Port, payload: u64) -> AfterCall
 fn advance(p: Port, n: u64) -> AfterCall
     ensures { λ r. ⌜ Made (view p) (advance n) r ⌝ }
 {
-    let r = lent::record::advance_local(p, n);
+    let r = lent_port::record::advance_local(p, n);
     let a = r.answer;
     let answer = advanced(a);
     let port = r.port;

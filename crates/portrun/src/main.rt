@@ -5,22 +5,20 @@ ghost use lib.ListN.{length};
 ghost use Rattle.portrun.specs.Runs.{AnswersTo};
 
 mod answers;
-mod lines;
-mod text;
 
-use answers::Answer;
 use answers::make;
 use libc::STDIN_FILENO;
 use libc::STDOUT_FILENO;
-use lines::Line;
-use lines::Stepped;
-use lines::step;
 use machine::AfterOpening;
 use machine::Port;
-use planner::Verdict;
+use table::Verdict;
 use tablefile::Loaded;
 use tablefile::Reading;
-use text::put_answer;
+use texts::lines::Line;
+use texts::lines::Stepped;
+use texts::lines::step;
+use texts::text::Answer;
+use texts::text::put_answer;
 
 // What goes on from one read to the next.
 pub struct Run {
@@ -147,10 +145,7 @@ fn opened(o: AfterOpening) {
             calls(port);
         }
         Verdict::Refused(r) => {
-            refused(
-                planner::numbers::number(r),
-                planner::numbers::place(r) as u64,
-            );
+            refused(table::numbers::number(r), table::numbers::place(r) as u64);
         }
     }
 }
@@ -160,7 +155,7 @@ fn loaded(l: Loaded) {
     match answer {
         Reading::Whole => {
             let t = l.table;
-            opened(port::opening::open(t));
+            opened(offers::opening::open(t));
         }
         Reading::Refused(fault, place) => {
             refused(tablefile::numbers::number(fault), place as u64);
@@ -186,5 +181,5 @@ fn main() {
         }
     }
     libc::close(fd);
-    loaded(tablefile::read::read(&input[..n]));
+    loaded(tableread::read::read(&input[..n]));
 }

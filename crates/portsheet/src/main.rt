@@ -1,14 +1,18 @@
 // Reads a table file on standard input and prints its sheet: a line for each row with its class, bytes on the wire, period, deadline
 // and bound. A refused file gets one line with the refusal's number and place.
 ghost use Prim.Native.Nat.{_≤_};
+ghost use Rattle.table.specs.Limits.{mostRows};
 use libc::STDIN_FILENO;
 use libc::STDOUT_FILENO;
-use planner::Class;
-use planner::Row;
-use planner::Table;
-use planner::Verdict;
+use table::Class;
+use table::ROWS;
+use table::Row;
+use table::Table;
+use table::Verdict;
 use tablefile::Loaded;
 use tablefile::Reading;
+use texts::text::Answer;
+use texts::text::put_answer;
 
 fn space() {
     io::write_all(STDOUT_FILENO, b" ");
@@ -18,12 +22,10 @@ fn number(n: u64) {
     io::print_decimal(STDOUT_FILENO, n);
 }
 
-fn refused(number_of: u64, place: u64) {
-    io::write_all(STDOUT_FILENO, b"refused ");
-    number(number_of);
-    space();
-    number(place);
-    io::write_all(STDOUT_FILENO, b"\n");
+fn refused(number: u64, place: u64) {
+    let mut out = io::buffer();
+    let n = put_answer(&mut out, 0, Answer::Refused(number, place));
+    io::write_all(STDOUT_FILENO, &out[..n]);
 }
 
 fn class_letter(class: Class) {
@@ -41,9 +43,9 @@ fn line(at: usize, row: Row, bound: u64) {
     number(at as u64);
     let class = row.class;
     class_letter(class);
-    number(planner::wire::size(row));
+    number(table::wire::size(row));
     space();
-    number(planner::wire::period(row));
+    number(table::wire::period(row));
     space();
     number(row.deadline as u64);
     space();
@@ -51,8 +53,8 @@ fn line(at: usize, row: Row, bound: u64) {
     io::write_all(STDOUT_FILENO, b"\n");
 }
 
-fn lines(t: Table, bounds: [u64; 32])
-    requires { ⌜ t .count ≤ 32 ⌝ }
+fn lines(t: Table, bounds: [u64; ROWS])
+    requires { ⌜ t .count ≤ mostRows ⌝ }
 {
     io::write_all(STDOUT_FILENO, b"row class wire period deadline bound\n");
     let n = t.count;
@@ -65,7 +67,7 @@ fn lines(t: Table, bounds: [u64; 32])
 
 // The sheet of a table that was read, or opening's refusal.
 fn opened(t: Table) {
-    let s = lent::rows::of_table(t);
+    let s = lent_rows::rows::of_table(t);
     let verdict = s.verdict;
     match verdict {
         Verdict::Accepted => {
@@ -73,10 +75,7 @@ fn opened(t: Table) {
             lines(t, bounds);
         }
         Verdict::Refused(r) => {
-            refused(
-                planner::numbers::number(r),
-                planner::numbers::place(r) as u64,
-            );
+            refused(table::numbers::number(r), table::numbers::place(r) as u64);
         }
     }
 }
@@ -98,5 +97,5 @@ fn shown(l: Loaded) {
 fn main() {
     let mut input = [0u8; 512];
     let n = io::read_full(STDIN_FILENO, &mut input);
-    shown(tablefile::read::read(&input[..n]));
+    shown(tableread::read::read(&input[..n]));
 }

@@ -14,9 +14,8 @@ use Rattle.machine.specs.declared.Frame.{Frame}
 use Rattle.machine.specs.declared.Wire.{Wire}
 use Rattle.machine.specs.Record.{count, inQueue, sending, upTo}
 use Rattle.machine.proofs.FromSound.{up-to-true}
+use Rattle.machine.proofs.Places.{zeroFrame, next}
 use Rattle.record.specs.Steps.{Counts, Counted}
-use Rattle.record.specs.Steps.{zeroFrame}
-use Rattle.record.proofs.Walk.{next}
 
 -- ---- one frame more
 module _ (counts : List ℕ) (source : ℕ) where
@@ -88,10 +87,10 @@ up-to-same zero ok too e = refl
 up-to-same (suc n) ok too e = rw (up-to-same n ok too (λ k h. e k (omega arith)), e n (omega arith)) refl
 
 -- the counters of both queues and of the wire
-pub all-held : (n : ℕ) (xs ys : List Frame) (w : Wire) (a b all : List ℕ) → n ≤ 32 → Counted (λ k. inQueue k xs) (replicate 32 0) a → Counted (λ k. inQueue k ys) a b → Counted (λ k. sending k w) b all → upTo n (λ k. leb (getD all k 0) 1) ≡ upTo n (λ k. leb (inQueue k xs + inQueue k ys + sending k w) 1)
-all-held n xs ys w a b all h of-a of-b of-w = up-to-same n (λ k. leb (getD all k 0) 1) (λ k. leb (inQueue k xs + inQueue k ys + sending k w) 1) same
+pub all-held : (most : ℕ → ℕ) (n : ℕ) (xs ys : List Frame) (w : Wire) (a b all : List ℕ) → n ≤ 32 → Counted (λ k. inQueue k xs) (replicate 32 0) a → Counted (λ k. inQueue k ys) a b → Counted (λ k. sending k w) b all → upTo n (λ k. leb (getD all k 0) (most k)) ≡ upTo n (λ k. leb (inQueue k xs + inQueue k ys + sending k w) (most k))
+all-held most n xs ys w a b all h of-a of-b of-w = up-to-same n (λ k. leb (getD all k 0) (most k)) (λ k. leb (inQueue k xs + inQueue k ys + sending k w) (most k)) same
   where
-    same : (k : ℕ) → k < n → leb (getD all k 0) 1 ≡ leb (inQueue k xs + inQueue k ys + sending k w) 1
+    same : (k : ℕ) → k < n → leb (getD all k 0) (most k) ≡ leb (inQueue k xs + inQueue k ys + sending k w) (most k)
     same k g =
         let e : getD all k 0 ≡ inQueue k xs + inQueue k ys + sending k w = omega (arith, of-a k (omega arith), of-b k (omega arith), of-w k (omega arith), getD-replicate {A = ℕ} 32 k 0 0 (omega arith)) in
         rw e refl

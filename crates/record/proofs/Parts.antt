@@ -6,20 +6,22 @@ use mathlib.Core.Path.{_≡_, refl, sym, _∙_}
 use native.Mathlib.Omega.{arith}
 use lib.Dec.{leb, ltb}
 use lib.ListN.{getD}
-use Rattle.planner.specs.declared.Class.{Class}
-use Rattle.planner.specs.declared.Class.the-variants.{A, B}
-use Rattle.planner.specs.declared.Table.{Table}
-use Rattle.planner.specs.Rows.{rowAt, bestSize}
-use Rattle.planner.specs.Bound.{bound}
+use Rattle.table.specs.declared.Class.{Class}
+use Rattle.table.specs.declared.Class.the-variants.{A, B}
+use Rattle.table.specs.Rows.{Contents, rowAt}
+use Rattle.planner.specs.Sums.{bestSize}
+use Rattle.table.proofs.Laws as table
+use Rattle.planner.specs.Bound.{residence, bounds}
 use Rattle.planner.proofs.Laws as law
 use Rattle.machine.specs.declared.Frame.{Frame}
 use Rattle.machine.specs.declared.Wire.{Wire}
 use Rattle.machine.specs.declared.Wire.the-variants.{Free, Sending}
 use Rattle.machine.specs.State.{Instant, never, State}
 use Rattle.machine.specs.Time.{shaped, unshaped, owner}
-use Rattle.machine.specs.Record.{allOf, onSending, namesRow, isBest, rowIn, sizeWithin, rowSize, sizeBy, takenBy, rowOnly, isAt, tableSound, clockSound, creditSound, bestSound, namesSound, queuesSound, sizesSound, leftSound, framesTaken, rowsTaken, singleSound, latestSound, ageSound, sound}
-use Rattle.machine.proofs.FromSound.{and-true, Clauses, clauses}
-use Rattle.record.specs.Steps.{rowTest, frameTest, bestTest, sendingTest, numbersTest, framesTest, rowsTest}
+use Rattle.machine.specs.Record.{allOf, onSending, namesRow, isBest, rowIn, sizeWithin, rowSize, sizeBy, takenBy, rowOnly, isAt, tableSound, clockSound, creditSound, bestSound, namesSound, queuesSound, sizesSound, leftSound, framesTaken, rowsTaken, heldSound, latestSound, ageSound, sound}
+use Rattle.machine.proofs.FromSound.{Clauses, clauses}
+use Rattle.frames.specs.Tests.{rowTest, frameTest, bestTest, sendingTest}
+use Rattle.record.specs.Steps.{numbersTest, framesTest, rowsTest}
 
 -- ---- tests
 pub same-test : (x y : Bool) → (x ≡ true → y ≡ true) → (y ≡ true → x ≡ true) → x ≡ y
@@ -29,15 +31,19 @@ same-test false false f g = refl
 
 three : (x y z : Bool) → ((x && y) && z) ≡ true → (x ≡ true) × (y ≡ true) × (z ≡ true)
 three x y z e =
-    let p = and-true (x && y) z e in
-    let q = and-true x y (p .0) in
+    let p = table.and-true (x && y) z e in
+    let q = table.and-true x y (p .0) in
     (q .0, q .1, p .1)
 
 four : (x y z w : Bool) → ((x && y) && (z && w)) ≡ true → (x ≡ true) × (y ≡ true) × (z ≡ true) × (w ≡ true)
 four x y z w e =
     let p = three x y (z && w) e in
-    let q = and-true z w (p .2) in
+    let q = table.and-true z w (p .2) in
     (p .0, p .1, q .0, q .1)
+
+all-same : (x y : Frame → Bool) → ((f : Frame) → x f ≡ y f) → (q : List Frame) → allOf x q ≡ allOf y q
+all-same x y e [] = refl
+all-same x y e (f ∷ q) = rw (e f, all-same x y e q) refl
 
 all-both : (x y : Frame → Bool) (q : List Frame) → allOf (λ f. x f && y f) q ≡ (allOf x q && allOf y q)
 all-both x y [] = refl
@@ -53,10 +59,10 @@ all-both x y (f ∷ q) = go (x f) (y f) (allOf x q) (allOf y q) (all-both x y q)
 abbrev latestBy : List Instant → Frame → Bool
 latestBy ls f = isAt (f .taken) (getD ls (f .source) never)
 
-abbrev youngBy : Table → ℕ → Frame → Bool
-youngBy t now f = ltb (now - f .taken) (bound t (rowAt t (f .source)))
+abbrev youngBy : Contents → ℕ → Frame → Bool
+youngBy t now f = ltb (now - f .taken) (residence t (rowAt t (f .source)))
 
-record OfQueue (c : Class) (t : Table) (ls : List Instant) (now : ℕ) (q : List Frame) : Type 0 where
+record OfQueue (c : Class) (t : Contents) (ls : List Instant) (now : ℕ) (q : List Frame) : Type 0 where
   names : allOf (namesRow t) q ≡ true
   class : allOf (rowIn c t) q ≡ true
   sizes : allOf (rowSize t) q ≡ true
@@ -64,29 +70,39 @@ record OfQueue (c : Class) (t : Table) (ls : List Instant) (now : ℕ) (q : List
   latest : allOf (latestBy ls) q ≡ true
   young : allOf (youngBy t now) q ≡ true
 
-module _ (c : Class) (t : Table) (ls : List Instant) (now : ℕ) (q : List Frame) where
+module _ (c : Class) (t : Contents) (ls : List Instant) (now : ℕ) (q : List Frame) where
   abbrev fits : Frame → Bool
   fits f = rowIn c t f && rowSize t f
 
   abbrev timely : Frame → Bool
   timely f = (takenBy now f && latestBy ls f) && youngBy t now f
 
-  queue-tests : allOf (frameTest c t ls now) q ≡ (allOf (namesRow t) q && ((allOf (rowIn c t) q && allOf (rowSize t) q) && ((allOf (takenBy now) q && allOf (latestBy ls) q) && allOf (youngBy t now) q)))
+  -- a row's limit is its residence
+  frame-tests : (f : Frame) → frameTest c t (bounds t) ls now f ≡ (namesRow t f && (fits f && timely f))
   unfolding frameTest rowTest
+  frame-tests f = go (namesRow t f) refl
+    where
+      go : (b : Bool) → namesRow t f ≡ b → frameTest c t (bounds t) ls now f ≡ (namesRow t f && (fits f && timely f))
+      go true e =
+          let limit : getD (bounds t) (f .source) 0 ≡ residence t (rowAt t (f .source)) = omega (arith, law.bounds-row t (f .source) (table.is-used t (f .source) e), law.bound-report t (rowAt t (f .source))) in
+          rw (e, limit) refl
+      go false e = rw e refl
+
+  queue-tests : allOf (frameTest c t (bounds t) ls now) q ≡ (allOf (namesRow t) q && ((allOf (rowIn c t) q && allOf (rowSize t) q) && ((allOf (takenBy now) q && allOf (latestBy ls) q) && allOf (youngBy t now) q)))
   queue-tests =
-      rw (all-both (namesRow t) (λ f. fits f && timely f) q, all-both fits timely q, all-both (rowIn c t) (rowSize t) q, all-both (λ f. takenBy now f && latestBy ls f) (youngBy t now) q, all-both (takenBy now) (latestBy ls) q)
+      rw (all-same (frameTest c t (bounds t) ls now) (λ f. namesRow t f && (fits f && timely f)) frame-tests q, all-both (namesRow t) (λ f. fits f && timely f) q, all-both fits timely q, all-both (rowIn c t) (rowSize t) q, all-both (λ f. takenBy now f && latestBy ls f) (youngBy t now) q, all-both (takenBy now) (latestBy ls) q)
       refl
 
-  of-queue : allOf (frameTest c t ls now) q ≡ true → OfQueue c t ls now q
+  of-queue : allOf (frameTest c t (bounds t) ls now) q ≡ true → OfQueue c t ls now q
   of-queue e =
-      let p = and-true (allOf (namesRow t) q) _ (sym queue-tests ∙ e) in
-      let f = and-true (allOf (rowIn c t) q && allOf (rowSize t) q) _ (p .1) in
-      let g = and-true (allOf (rowIn c t) q) (allOf (rowSize t) q) (f .0) in
-      let h = and-true (allOf (takenBy now) q && allOf (latestBy ls) q) (allOf (youngBy t now) q) (f .1) in
-      let k = and-true (allOf (takenBy now) q) (allOf (latestBy ls) q) (h .0) in
+      let p = table.and-true (allOf (namesRow t) q) _ (sym queue-tests ∙ e) in
+      let f = table.and-true (allOf (rowIn c t) q && allOf (rowSize t) q) _ (p .1) in
+      let g = table.and-true (allOf (rowIn c t) q) (allOf (rowSize t) q) (f .0) in
+      let h = table.and-true (allOf (takenBy now) q && allOf (latestBy ls) q) (allOf (youngBy t now) q) (f .1) in
+      let k = table.and-true (allOf (takenBy now) q) (allOf (latestBy ls) q) (h .0) in
       record { names = p .0; class = g .0; sizes = g .1; taken = k .0; latest = k .1; young = h .1 }
 
-  queue-passes : OfQueue c t ls now q → allOf (frameTest c t ls now) q ≡ true
+  queue-passes : OfQueue c t ls now q → allOf (frameTest c t (bounds t) ls now) q ≡ true
   queue-passes p = queue-tests ∙ rw (p .names, p .class, p .sizes, p .taken, p .latest, p .young) refl
 
 -- ---- the best-effort queue
@@ -102,15 +118,15 @@ module _ (most now : ℕ) (q : List Frame) where
 
   of-best : allOf (bestTest most now) q ≡ true → OfBest most now q
   of-best e =
-      let p = and-true (allOf isBest q && allOf (sizeWithin most) q) (allOf (takenBy now) q) (sym best-tests ∙ e) in
-      let g = and-true (allOf isBest q) (allOf (sizeWithin most) q) (p .0) in
+      let p = table.and-true (allOf isBest q && allOf (sizeWithin most) q) (allOf (takenBy now) q) (sym best-tests ∙ e) in
+      let g = table.and-true (allOf isBest q) (allOf (sizeWithin most) q) (p .0) in
       record { marks = g .0; sizes = g .1; taken = p .1 }
 
   best-passes : OfBest most now q → allOf (bestTest most now) q ≡ true
   best-passes p = best-tests ∙ rw (p .marks, p .sizes, p .taken) refl
 
 -- ---- the wire
-record OfWire (t : Table) (ls : List Instant) (now : ℕ) (w : Wire) : Type 0 where
+record OfWire (t : Contents) (ls : List Instant) (now : ℕ) (w : Wire) : Type 0 where
   names : onSending (λ f left. namesRow t f || isBest f) w ≡ true
   sizes : onSending (λ f left. sizeBy (owner t f) t f) w ≡ true
   left : onSending (λ f left. leb 1 left && leb left (f .size)) w ≡ true
@@ -118,7 +134,7 @@ record OfWire (t : Table) (ls : List Instant) (now : ℕ) (w : Wire) : Type 0 wh
   latest : onSending (λ f left. rowOnly (owner t f) (latestBy ls f)) w ≡ true
   young : onSending (λ f left. rowOnly (owner t f) (youngBy t now f)) w ≡ true
 
-module _ (t : Table) (ls : List Instant) (now : ℕ) where
+module _ (t : Contents) (ls : List Instant) (now : ℕ) where
   -- a frame on the wire that names a row, or does not
   owned : (f : Frame) → namesRow t f ≡ true → owner t f ≡ shaped (rowAt t (f .source) .class)
   unfolding owner
@@ -135,58 +151,58 @@ module _ (t : Table) (ls : List Instant) (now : ℕ) where
     abbrev own : Class
     own = rowAt t (f .source) .class
 
-    by-row : namesRow t f ≡ true → sendingTest t ls now f left ≡ (bytes && frameTest own t ls now f)
+    by-row : namesRow t f ≡ true → sendingTest t (bounds t) ls now f left ≡ (bytes && frameTest own t (bounds t) ls now f)
     unfolding sendingTest
     by-row n = rw n refl
 
-    by-mark : namesRow t f ≡ false → sendingTest t ls now f left ≡ (bytes && bestTest (bestSize t) now f)
+    by-mark : namesRow t f ≡ false → sendingTest t (bounds t) ls now f left ≡ (bytes && bestTest (bestSize t) now f)
     unfolding sendingTest
     by-mark n = rw n refl
 
-    of-row : namesRow t f ≡ true → sendingTest t ls now f left ≡ true → OfWire t ls now (Sending f left)
+    of-row : namesRow t f ≡ true → sendingTest t (bounds t) ls now f left ≡ true → OfWire t ls now (Sending f left)
     of-row n e =
-        let p = and-true bytes (frameTest own t ls now f) (sym (by-row n) ∙ e) in
+        let p = table.and-true bytes (frameTest own t (bounds t) ls now f) (sym (by-row n) ∙ e) in
         let q = of-queue own t ls now (f ∷ []) (rw (p .1) refl) in
         record {
           names = rw n refl;
-          sizes = rw (owned f n) (and-true (rowSize t f) true (q .sizes) .0);
+          sizes = rw (owned f n) (table.and-true (rowSize t f) true (q .sizes) .0);
           left = p .0;
-          taken = and-true (takenBy now f) true (q .taken) .0;
-          latest = rw (owned f n) (and-true (latestBy ls f) true (q .latest) .0);
-          young = rw (owned f n) (and-true (youngBy t now f) true (q .young) .0);
+          taken = table.and-true (takenBy now f) true (q .taken) .0;
+          latest = rw (owned f n) (table.and-true (latestBy ls f) true (q .latest) .0);
+          young = rw (owned f n) (table.and-true (youngBy t now f) true (q .young) .0);
         }
 
-    of-mark : namesRow t f ≡ false → sendingTest t ls now f left ≡ true → OfWire t ls now (Sending f left)
+    of-mark : namesRow t f ≡ false → sendingTest t (bounds t) ls now f left ≡ true → OfWire t ls now (Sending f left)
     of-mark n e =
-        let p = and-true bytes (bestTest (bestSize t) now f) (sym (by-mark n) ∙ e) in
+        let p = table.and-true bytes (bestTest (bestSize t) now f) (sym (by-mark n) ∙ e) in
         let q = of-best (bestSize t) now (f ∷ []) (rw (p .1) refl) in
         record {
-          names = rw n (and-true (isBest f) true (q .marks) .0);
-          sizes = rw (unowned f n) (and-true (sizeWithin (bestSize t) f) true (q .sizes) .0);
+          names = rw n (table.and-true (isBest f) true (q .marks) .0);
+          sizes = rw (unowned f n) (table.and-true (sizeWithin (bestSize t) f) true (q .sizes) .0);
           left = p .0;
-          taken = and-true (takenBy now f) true (q .taken) .0;
+          taken = table.and-true (takenBy now f) true (q .taken) .0;
           latest = rw (unowned f n) refl;
           young = rw (unowned f n) refl;
         }
 
-    row-passes : namesRow t f ≡ true → OfWire t ls now (Sending f left) → sendingTest t ls now f left ≡ true
+    row-passes : namesRow t f ≡ true → OfWire t ls now (Sending f left) → sendingTest t (bounds t) ls now f left ≡ true
     row-passes n w =
         let sizes : rowSize t f ≡ true = rw (owned f n) at (w .sizes) in
         let latest : latestBy ls f ≡ true = rw (owned f n) at (w .latest) in
         let young : youngBy t now f ≡ true = rw (owned f n) at (w .young) in
-        let q : OfQueue own t ls now (f ∷ []) = record { names = rw n refl; class = rw (law.same-self own) refl; sizes = rw sizes refl; taken = rw (w .taken) refl; latest = rw latest refl; young = rw young refl } in
-        let e = and-true (frameTest own t ls now f) true (queue-passes own t ls now (f ∷ []) q) .0 in
+        let q : OfQueue own t ls now (f ∷ []) = record { names = rw n refl; class = rw (table.same-self own) refl; sizes = rw sizes refl; taken = rw (w .taken) refl; latest = rw latest refl; young = rw young refl } in
+        let e = table.and-true (frameTest own t (bounds t) ls now f) true (queue-passes own t ls now (f ∷ []) q) .0 in
         by-row n ∙ rw (w .left, e) refl
 
-    mark-passes : namesRow t f ≡ false → OfWire t ls now (Sending f left) → sendingTest t ls now f left ≡ true
+    mark-passes : namesRow t f ≡ false → OfWire t ls now (Sending f left) → sendingTest t (bounds t) ls now f left ≡ true
     mark-passes n w =
         let sizes : sizeWithin (bestSize t) f ≡ true = rw (unowned f n) at (w .sizes) in
         let marks : isBest f ≡ true = rw n at (w .names) in
         let q : OfBest (bestSize t) now (f ∷ []) = record { marks = rw marks refl; sizes = rw sizes refl; taken = rw (w .taken) refl } in
-        let e = and-true (bestTest (bestSize t) now f) true (best-passes (bestSize t) now (f ∷ []) q) .0 in
+        let e = table.and-true (bestTest (bestSize t) now f) true (best-passes (bestSize t) now (f ∷ []) q) .0 in
         by-mark n ∙ rw (w .left, e) refl
 
-  of-wire : (w : Wire) → onSending (sendingTest t ls now) w ≡ true → OfWire t ls now w
+  of-wire : (w : Wire) → onSending (sendingTest t (bounds t) ls now) w ≡ true → OfWire t ls now w
   of-wire Free e = record { names = refl; sizes = refl; left = refl; taken = refl; latest = refl; young = refl }
   of-wire (Sending f left) e = go (namesRow t f) refl
     where
@@ -194,11 +210,11 @@ module _ (t : Table) (ls : List Instant) (now : ℕ) where
       go true n = of-row f left n e
       go false n = of-mark f left n e
 
-  wire-passes : (w : Wire) → OfWire t ls now w → onSending (sendingTest t ls now) w ≡ true
+  wire-passes : (w : Wire) → OfWire t ls now w → onSending (sendingTest t (bounds t) ls now) w ≡ true
   wire-passes Free p = refl
   wire-passes (Sending f left) p = go (namesRow t f) refl
     where
-      go : (b : Bool) → namesRow t f ≡ b → sendingTest t ls now f left ≡ true
+      go : (b : Bool) → namesRow t f ≡ b → sendingTest t (bounds t) ls now f left ≡ true
       go true n = row-passes f left n p
       go false n = mark-passes f left n p
 
@@ -207,7 +223,7 @@ pub record Passes (s : State) : Type 0 where
   pub table : tableSound s ≡ true
   pub numbers : numbersTest s ≡ true
   pub best : bestSound s ≡ true
-  pub frames : framesTest s ≡ true
+  pub frames : framesTest (bounds (s .table)) s ≡ true
   pub rows : rowsTest s ≡ true
 
 module _ (s : State) where
@@ -221,15 +237,15 @@ module _ (s : State) where
     best : OfBest (bestSize (s .table)) (s .clock) (s .best)
     wire : OfWire (s .table) (s .last) (s .clock) (s .wire)
 
-  of-frames : framesTest s ≡ true → OfFrames
+  of-frames : framesTest (bounds (s .table)) s ≡ true → OfFrames
   unfolding framesTest
   of-frames e =
-      let p = and-true (allOf (frameTest A (s .table) (s .last) (s .clock)) (s .a) && allOf (frameTest B (s .table) (s .last) (s .clock)) (s .b)) _ e in
-      let q = and-true (allOf (frameTest A (s .table) (s .last) (s .clock)) (s .a)) (allOf (frameTest B (s .table) (s .last) (s .clock)) (s .b)) (p .0) in
-      let r = and-true (allOf (bestTest (bestSize (s .table)) (s .clock)) (s .best)) (onSending (sendingTest (s .table) (s .last) (s .clock)) (s .wire)) (p .1) in
+      let p = table.and-true (allOf (frameTest A (s .table) (bounds (s .table)) (s .last) (s .clock)) (s .a) && allOf (frameTest B (s .table) (bounds (s .table)) (s .last) (s .clock)) (s .b)) _ e in
+      let q = table.and-true (allOf (frameTest A (s .table) (bounds (s .table)) (s .last) (s .clock)) (s .a)) (allOf (frameTest B (s .table) (bounds (s .table)) (s .last) (s .clock)) (s .b)) (p .0) in
+      let r = table.and-true (allOf (bestTest (bestSize (s .table)) (s .clock)) (s .best)) (onSending (sendingTest (s .table) (bounds (s .table)) (s .last) (s .clock)) (s .wire)) (p .1) in
       record { a = of-queue A _ _ _ _ (q .0); b = of-queue B _ _ _ _ (q .1); best = of-best _ _ _ (r .0); wire = of-wire _ _ _ (s .wire) (r .1) }
 
-  frames-pass : OfFrames → framesTest s ≡ true
+  frames-pass : OfFrames → framesTest (bounds (s .table)) s ≡ true
   unfolding framesTest
   frames-pass p =
       rw (queue-passes A (s .table) (s .last) (s .clock) (s .a) (p .a), queue-passes B (s .table) (s .last) (s .clock) (s .b) (p .b), best-passes (bestSize (s .table)) (s .clock) (s .best) (p .best), wire-passes (s .table) (s .last) (s .clock) (s .wire) (p .wire))
@@ -284,19 +300,19 @@ module _ (s : State) where
   numbers-hold : numbersTest s ≡ true → (clockSound s ≡ true) × (creditSound A s ≡ true) × (creditSound B s ≡ true)
   unfolding numbersTest
   numbers-hold e =
-      let p = and-true (clockSound s) _ e in
-      let q = and-true (creditSound A s) (creditSound B s) (p .1) in
+      let p = table.and-true (clockSound s) _ e in
+      let q = table.and-true (creditSound A s) (creditSound B s) (p .1) in
       (p .0, q .0, q .1)
 
-  rows-hold : rowsTest s ≡ true → (rowsTaken s ≡ true) × (singleSound s ≡ true)
+  rows-hold : rowsTest s ≡ true → (rowsTaken s ≡ true) × (heldSound s ≡ true)
   unfolding rowsTest
-  rows-hold e = and-true (rowsTaken s) (singleSound s) e
+  rows-hold e = table.and-true (rowsTaken s) (heldSound s) e
 
   pub passes : sound s ≡ true → Passes s
   unfolding numbersTest rowsTest
   passes e =
       let c = clauses s e in
-      record { table = c .table; numbers = rw (c .clock, c .credit-a, c .credit-b) refl; best = c .best; frames = frames-pass (of-clauses c); rows = rw (c .rows, c .single) refl }
+      record { table = c .table; numbers = rw (c .clock, c .credit-a, c .credit-b) refl; best = c .best; frames = frames-pass (of-clauses c); rows = rw (c .rows, c .held) refl }
 
   pub passed : Passes s → sound s ≡ true
   unfolding sound
@@ -311,12 +327,5 @@ module _ (s : State) where
   broken fails = same-test false (sound s) (λ e. let z : _≡_ {A = ℕ} 0 1 = cc in absurd (omega arith)) (λ e. absurd (fails (passes e)))
 
   -- of a record that passes the others, the test of its rows decides
-  pub by-rows : tableSound s ≡ true → numbersTest s ≡ true → bestSound s ≡ true → framesTest s ≡ true → rowsTest s ≡ sound s
+  pub by-rows : tableSound s ≡ true → numbersTest s ≡ true → bestSound s ≡ true → framesTest (bounds (s .table)) s ≡ true → rowsTest s ≡ sound s
   by-rows t n b f = same-test (rowsTest s) (sound s) (λ r. passed record { table = t; numbers = n; best = b; frames = f; rows = r }) (λ e. passes e .rows)
-
-  -- no queue of a class has a frame without a place
-  pub a-sizes : framesTest s ≡ true → allOf (rowSize (s .table)) (s .a) ≡ true
-  a-sizes e = of-frames e .a .sizes
-
-  pub b-sizes : framesTest s ≡ true → allOf (rowSize (s .table)) (s .b) ≡ true
-  b-sizes e = of-frames e .b .sizes

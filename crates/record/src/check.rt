@@ -3,29 +3,31 @@ ghost use mathlib.Core.Path.{_≡_};
 ghost use Prim.Native.Nat.{_-_, _*_, _^_, _≤_, _<_};
 ghost use mathlib.Core.List.{map};
 ghost use lib.ListN.{take};
-ghost use Rattle.planner.specs.declared.Class.{Class};
-ghost use Rattle.planner.specs.Wire.{D};
+ghost use Rattle.table.specs.declared.Class.{Class};
+ghost use Rattle.table.specs.Limits.{D, mostRows, mostSlope, mostSize};
+ghost use Rattle.table.specs.Rows.{contents};
+ghost use Rattle.table.specs.Checks.{accepted};
 ghost use Rattle.planner.specs.Bound.{bounds};
-ghost use Rattle.planner.specs.Opening.{accepted, opening};
+ghost use Rattle.planner.specs.Opening.{opening};
 ghost use Rattle.planner.specs.Plan.{laneOf};
+ghost use Rattle.machine.specs.Limits.{classPlaces};
 ghost use Rattle.machine.specs.State.{instantOf, view};
 ghost use Rattle.machine.specs.Record.{between, notAfter, noneAfter, sound};
 ghost use Rattle.record.specs.Steps.{numbersTest, framesTest, rowsTest};
-use crate::frames::best_ok;
-use crate::frames::queue_ok;
-use crate::frames::wire_ok;
-use crate::tally::single;
+use crate::tally::within_most;
+use frames::tests::best_ok;
+use frames::tests::queue_ok;
+use frames::tests::wire_ok;
+use machine::LAST_CLOCK;
 use machine::Last;
 use machine::Port;
-use planner::Class;
 use planner::Lane;
-use planner::Verdict;
 use planner::acceptance::plan;
-use planner::wire::D;
-use planner::wire::wire_size;
-
-// The clock's last value.
-pub const LAST_CLOCK: u64 = 1_099_511_627_775;
+use table::Class;
+use table::ROWS;
+use table::Verdict;
+use table::wire::D;
+use table::wire::wire_size;
 
 // A credit is in range, from −low to high.
 fn within(credit: i64, low: u64, high: u64) -> bool
@@ -41,9 +43,9 @@ fn within(credit: i64, low: u64, high: u64) -> bool
 
 // A class's credit is in range, −S × L to I × H.
 fn credit_ok(credit: i64, l: Lane) -> bool
-    requires { ⌜ l .idle ≤ 750000 ⌝ }
-    requires { ⌜ l .largest ≤ 1542 ⌝ }
-    requires { ⌜ l .blocking ≤ 7710 ⌝ }
+    requires { ⌜ l .idle ≤ mostSlope ⌝ }
+    requires { ⌜ l .largest ≤ mostSize ⌝ }
+    requires { ⌜ l .blocking ≤ 5 * mostSize ⌝ }
     ensures { λ r. ⌜ r ≡ between ((D - l .idle) * l .largest) (l .idle * l .blocking) credit ⌝ }
 {
     let send = D - l.idle;
@@ -52,9 +54,9 @@ fn credit_ok(credit: i64, l: Lane) -> bool
 
 // The clock and the credits of a record whose table is accepted.
 fn numbers_ok(p: Port, a: Lane, b: Lane) -> bool
-    requires { ⌜ opening (p .table) ≡ accepted ⌝ }
-    requires { ⌜ a ≡ laneOf Class.A (p .table) ⌝ }
-    requires { ⌜ b ≡ laneOf Class.B (p .table) ⌝ }
+    requires { ⌜ opening (contents (p .table)) ≡ accepted ⌝ }
+    requires { ⌜ a ≡ laneOf Class.A (contents (p .table)) ⌝ }
+    requires { ⌜ b ≡ laneOf Class.B (contents (p .table)) ⌝ }
     ensures { λ r. ⌜ r ≡ numbersTest (view p) ⌝ }
 {
     if LAST_CLOCK < p.clock {
@@ -66,14 +68,9 @@ fn numbers_ok(p: Port, a: Lane, b: Lane) -> bool
     credit_ok(p.creditb, b)
 }
 
-// All frames of a record whose counts fit their places.
-fn frames_ok(p: Port, limits: [u64; 32]) -> bool
-    requires { ⌜ p .table .count ≤ 32 ⌝ }
-    requires { ⌜ limits ≡ bounds (p .table) ⌝ }
-    requires { ⌜ p .a .count ≤ 32 ⌝ }
-    requires { ⌜ p .b .count ≤ 32 ⌝ }
-    requires { ⌜ p .best .count ≤ 16 ⌝ }
-    ensures { λ r. ⌜ r ≡ framesTest (view p) ⌝ }
+// All frames of a record. A queue without a frame is not handed on.
+fn frames_ok(p: Port, limits: [u64; ROWS]) -> bool
+    ensures { λ r. ⌜ r ≡ framesTest limits (view p) ⌝ }
 {
     let t = p.table;
     let last = p.last;
@@ -92,7 +89,7 @@ fn frames_ok(p: Port, limits: [u64; 32]) -> bool
     }
     if 0 < p.best.count {
         let best = p.best;
-        if !best_ok(best, wire_size(t.payload), clock) {
+        if !best_ok(best, wire_size(t.header.payload), clock) {
             return false;
         }
     }
@@ -111,8 +108,8 @@ fn instant_ok(l: Last, clock: u64) -> bool
 }
 
 // The instants of the first n rows.
-fn instants_ok(last: [Last; 32], n: usize, clock: u64) -> bool
-    requires { ⌜ n ≤ 32 ⌝ }
+fn instants_ok(last: [Last; ROWS], n: usize, clock: u64) -> bool
+    requires { ⌜ n ≤ mostRows ⌝ }
     ensures { λ r. ⌜ r ≡ noneAfter clock (map instantOf (take n last)) ⌝ }
 {
     let mut i: usize = 0;
@@ -126,11 +123,11 @@ fn instants_ok(last: [Last; 32], n: usize, clock: u64) -> bool
     true
 }
 
-// The rows in use of a record whose counts fit their places: no instant after the clock, no row with two frames.
+// The rows in use of a record whose counts fit their places: no instant after the clock, no row with more frames than it may have.
 fn rows_ok(p: Port) -> bool
-    requires { ⌜ p .table .count ≤ 32 ⌝ }
-    requires { ⌜ p .a .count ≤ 32 ⌝ }
-    requires { ⌜ p .b .count ≤ 32 ⌝ }
+    requires { ⌜ p .table .count ≤ mostRows ⌝ }
+    requires { ⌜ p .a .count ≤ classPlaces ⌝ }
+    requires { ⌜ p .b .count ≤ classPlaces ⌝ }
     ensures { λ r. ⌜ r ≡ rowsTest (view p) ⌝ }
 {
     let t = p.table;
@@ -142,28 +139,18 @@ fn rows_ok(p: Port) -> bool
     let a = p.a;
     let b = p.b;
     let w = p.wire;
-    single(a, b, w, n)
+    within_most(a, b, w, n)
 }
 
-// A record whose table is accepted. Counts come before the frames that they count: a class's count above its places stands
-// for frames that name no row.
-fn parts_ok(p: Port, a: Lane, b: Lane, limits: [u64; 32]) -> bool
-    requires { ⌜ opening (p .table) ≡ accepted ⌝ }
-    requires { ⌜ a ≡ laneOf Class.A (p .table) ⌝ }
-    requires { ⌜ b ≡ laneOf Class.B (p .table) ⌝ }
-    requires { ⌜ limits ≡ bounds (p .table) ⌝ }
+// A record whose table is accepted. A count above its queue's places fails with the frames: those without a place pass no test.
+fn parts_ok(p: Port, a: Lane, b: Lane, limits: [u64; ROWS]) -> bool
+    requires { ⌜ opening (contents (p .table)) ≡ accepted ⌝ }
+    requires { ⌜ a ≡ laneOf Class.A (contents (p .table)) ⌝ }
+    requires { ⌜ b ≡ laneOf Class.B (contents (p .table)) ⌝ }
+    requires { ⌜ limits ≡ bounds (contents (p .table)) ⌝ }
     ensures { λ r. ⌜ r ≡ sound (view p) ⌝ }
 {
     if !numbers_ok(p, a, b) {
-        return false;
-    }
-    if 16 < p.best.count {
-        return false;
-    }
-    if 32 < p.a.count {
-        return false;
-    }
-    if 32 < p.b.count {
         return false;
     }
     if !frames_ok(p, limits) {

@@ -1,4 +1,3 @@
 // The record check: whether a port record, of any content, is sound.
 pub mod check;
-mod frames;
 mod tally;

@@ -1,5 +1,5 @@
 -- What a replay answers, by the checks in their order.
-use Prim.Native.Nat.{ℕ, _+_, _*_, _/_, _%_, _≤_, _<_}
+use Prim.Native.Nat.{ℕ, _*_, _/_, _%_, _≤_, _<_}
 use mathlib.Core.Bool.{Bool, true, false}
 use mathlib.Core.List.{List, [], _∷_}
 use mathlib.Core.Path.{_≡_, refl, sym, _∙_, ap}
@@ -7,56 +7,35 @@ use native.Mathlib.Omega.{arith}
 use lib.ListN.{length}
 use lib.Dec.{eqb, leb}
 use borrow.Author.Tests.{eq-eqb, ne-eqb, leb-true, le-leb, lt-leb}
-use Rattle.planner.specs.declared.Refusal.{Refusal}
-use Rattle.planner.specs.declared.Refusal.the-variants as refusals
-use Rattle.planner.specs.Opening as tables
-use Rattle.planner.specs.Opening.{Outcome, accepted, refused, unless, first}
-use Rattle.tablefile.specs.declared.Fault.{Fault}
-use Rattle.tablefile.specs.declared.Fault.the-variants as faults
-use Rattle.tablefile.specs.Reading as files
+use Rattle.table.specs.Checks.{Outcome, accepted, refused, unless, first}
+use Rattle.table.proofs.Laws.{never}
 use Rattle.tablefile.specs.Reading.{readFile}
-use Rattle.replay.specs.declared.FilePort.{FilePort}
-use Rattle.replay.specs.Codes.{codeOf, fileCheck}
+use Rattle.codes.specs.Codes.{codeOf, fileCheck}
+use Rattle.callbytes.specs.Calls.{callSize, answerSize}
+use Rattle.turns.specs.declared.FilePort.{FilePort}
+use Rattle.turns.specs.Turns.{FileOpened}
+use Rattle.turns.proofs.Laws.{opened-run}
 use Rattle.replay.specs.List.{countOf, unreadable, listCheck, replayCheck, Replayed}
-use Rattle.replay.specs.Steps.{FileOpened, Listed}
-use Rattle.replay.proofs.Refusals.{file-zero}
-use Rattle.replay.proofs.Reaching.{opened-run}
-
--- numbers are small
-pub fault-small : (f : Fault) → files.numberOf f ≤ 255
-fault-small faults.CutShort = omega arith
-fault-small faults.Letters = omega arith
-fault-small faults.RowCount = omega arith
-fault-small faults.MapBit = omega arith
-fault-small faults.OutOfRange = omega arith
-fault-small faults.StatesDefault = omega arith
-fault-small faults.Trailing = omega arith
-
-pub refusal-small : (r : Refusal) → tables.numberOf r ≤ 255
-refusal-small refusals.RowCount = omega arith
-refusal-small (refusals.Value p) = omega arith
-refusal-small refusals.Slopes = omega arith
-refusal-small (refusals.Shares c) = omega arith
-refusal-small (refusals.Deadline k) = omega arith
+use Rattle.replay.specs.Steps.{Listed}
 
 -- ---- the list's own checks
 module _ (s : List ℕ) (room : ℕ) where
-  pub uneven : {r : ℕ} → (length s % 24 ≡ 0 → ⊥) → r ≡ codeOf (refused 101 0) → r ≡ codeOf (listCheck s room)
+  pub uneven : {r : ℕ} → (length s % callSize ≡ 0 → ⊥) → r ≡ codeOf (refused 101 0) → r ≡ codeOf (listCheck s room)
   unfolding listCheck
-  uneven h e = rw (ne-eqb (length s % 24) 0 h) e
+  uneven h e = rw (ne-eqb (length s % callSize) 0 h) e
 
-  module _ (even : length s % 24 ≡ 0) {k : ℕ} (ek : k ≡ unreadable s) where
+  module _ (even : length s % callSize ≡ 0) {k : ℕ} (ek : k ≡ unreadable s) where
     pub not-read : {r : ℕ} → k < countOf s → r ≡ codeOf (refused 102 k) → r ≡ codeOf (listCheck s room)
     unfolding listCheck
-    not-read h e = rw (eq-eqb (length s % 24) 0 even, ← ek, lt-leb (countOf s) k h) e
+    not-read h e = rw (eq-eqb (length s % callSize) 0 even, ← ek, lt-leb (countOf s) k h) e
 
-    pub no-room : {r : ℕ} → countOf s ≤ k → room / 40 < countOf s → r ≡ codeOf (refused 103 0) → r ≡ codeOf (listCheck s room)
+    pub no-room : {r : ℕ} → countOf s ≤ k → room / answerSize < countOf s → r ≡ codeOf (refused 103 0) → r ≡ codeOf (listCheck s room)
     unfolding listCheck
-    no-room h g e = rw (eq-eqb (length s % 24) 0 even, ← ek, le-leb (countOf s) k h, lt-leb (40 * countOf s) room (omega arith)) e
+    no-room h g e = rw (eq-eqb (length s % callSize) 0 even, ← ek, le-leb (countOf s) k h, lt-leb (answerSize * countOf s) room (omega arith)) e
 
-    pub fits : countOf s ≤ k → countOf s ≤ room / 40 → 0 ≡ codeOf (listCheck s room)
+    pub fits : countOf s ≤ k → countOf s ≤ room / answerSize → 0 ≡ codeOf (listCheck s room)
     unfolding listCheck
-    fits h g = rw (eq-eqb (length s % 24) 0 even, ← ek, le-leb (countOf s) k h, le-leb (40 * countOf s) room (omega arith)) refl
+    fits h g = rw (eq-eqb (length s % callSize) 0 even, ← ek, le-leb (countOf s) k h, le-leb (answerSize * countOf s) room (omega arith)) refl
 
 -- a code of 0 is no refusal of theirs
 by-tests : (a b c : Bool) (k : ℕ) → codeOf (first (unless a 101 0 ∷ unless b 102 k ∷ unless c 103 0 ∷ [])) ≡ 0 → (first (unless a 101 0 ∷ unless b 102 k ∷ unless c 103 0 ∷ []) ≡ accepted) × (c ≡ true)
@@ -65,19 +44,16 @@ by-tests true false c k e = absurd (omega (arith, e))
 by-tests true true false k e = absurd (omega (arith, e))
 by-tests true true true k e = (refl, refl)
 
-pub list-accepted : (s : List ℕ) (room : ℕ) {r : ℕ} → r ≡ codeOf (listCheck s room) → r ≡ 0 → (listCheck s room ≡ accepted) × (40 * countOf s ≤ room)
+pub list-accepted : (s : List ℕ) (room : ℕ) {r : ℕ} → r ≡ codeOf (listCheck s room) → r ≡ 0 → (listCheck s room ≡ accepted) × (answerSize * countOf s ≤ room)
 unfolding listCheck
 list-accepted s room e z =
-    let p = by-tests (eqb (length s % 24) 0) (leb (countOf s) (unreadable s)) (leb (40 * countOf s) room) (unreadable s) (sym e ∙ z) in
-    (p .0, leb-true (40 * countOf s) room (p .1))
+    let p = by-tests (eqb (length s % callSize) 0) (leb (countOf s) (unreadable s)) (leb (answerSize * countOf s) room) (unreadable s) (sym e ∙ z) in
+    (p .0, leb-true (answerSize * countOf s) room (p .1))
 
 -- ---- a replay
 module _ (file s before : List ℕ) where
   refused-by : {r n p : ℕ} → replayCheck file s (length before) ≡ refused n p → r ≡ codeOf (refused n p) → Replayed file s before before r
-  refused-by q e = record { code = e ∙ sym (ap codeOf q); buffer = rw q refl; ran = λ z. not-accepted (sym q ∙ z) }
-    where
-      not-accepted : {X : Type 0} {n p : ℕ} → refused n p ≡ accepted → X
-      not-accepted e = let z : _≡_ {A = ℕ} 0 1 = cc in absurd (omega arith)
+  refused-by q e = record { code = e ∙ sym (ap codeOf q); buffer = rw q refl; ran = λ z. never (sym q ∙ z) }
 
   pub misfit : {r : ℕ} → r ≡ codeOf (listCheck s (length before)) → (r ≡ 0 → ⊥) → Replayed file s before before r
   unfolding replayCheck
@@ -99,6 +75,6 @@ module _ (file s before : List ℕ) where
     pub all-answered : {after : List ℕ} → o .code ≡ 0 → Listed (o .port) s before after → Replayed file s before after (o .code)
     unfolding replayCheck
     all-answered {after} z listed =
-        let all : replayCheck file s (length before) ≡ accepted = rw (fit, file-zero file made z) refl in
+        let all : replayCheck file s (length before) ≡ accepted = rw (fit, made .told z) refl in
         let done = listed (readFile file .table) (opened-run file made z) in
         record { code = z ∙ rw all refl; buffer = rw all (done .1); ran = λ _. done .0 }

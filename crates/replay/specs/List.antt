@@ -5,19 +5,20 @@ use mathlib.Core.List.{List, [], _∷_, _++_}
 use mathlib.Core.Path.{_≡_}
 use lib.Dec.{leb, eqb}
 use lib.ListN.{length, take, drop}
-use Rattle.planner.specs.declared.Table.{Table}
-use Rattle.planner.specs.Opening.{Outcome, accepted, refused, unless, first}
+use Rattle.table.specs.declared.Table.{Table}
+use Rattle.table.specs.Rows.{Contents, contents}
+use Rattle.table.specs.Checks.{Outcome, accepted, refused, unless, first}
 use Rattle.tablefile.specs.Reading.{readFile}
 use Rattle.machine.specs.declared.Port.{Port}
 use Rattle.machine.specs.Calls.{Call, answer}
 use Rattle.machine.specs.Run.{Event, event, machine, Run, Demand3}
-use Rattle.replay.specs.declared.Asked.{Asked}
-use Rattle.replay.specs.Codes.{codeOf, fileCheck}
-use Rattle.replay.specs.Calls.{readCall, isReadable, callOf, answerBytes}
+use Rattle.codes.specs.Codes.{codeOf, fileCheck}
+use Rattle.callbytes.specs.declared.Asked.{Asked}
+use Rattle.callbytes.specs.Calls.{callSize, answerSize, readCall, isReadable, callOf, answerBytes}
 
 -- The call of number i.
 unfoldable pub askedAt : List ℕ → ℕ → Asked
-askedAt calls i = readCall (take 24 (drop (24 * i) calls))
+askedAt calls i = readCall (take callSize (drop (callSize * i) calls))
 
 abbrev pub callAt : List ℕ → ℕ → Call
 callAt calls i = callOf (askedAt calls i)
@@ -28,7 +29,7 @@ lowest zero ok = zero
 lowest (suc n) ok = cond (eqb (lowest n ok) n) (cond (ok n) (suc n) n) (lowest n ok)
 
 abbrev pub countOf : List ℕ → ℕ
-countOf calls = length calls / 24
+countOf calls = length calls / callSize
 
 abbrev pub unreadable : List ℕ → ℕ
 unreadable calls = lowest (countOf calls) (λ i. isReadable (askedAt calls i))
@@ -37,9 +38,9 @@ unreadable calls = lowest (countOf calls) (λ i. isReadable (askedAt calls i))
 unfoldable pub listCheck : List ℕ → ℕ → Outcome
 listCheck calls room =
     first
-    (unless (eqb (length calls % 24) 0) 101 0
+    (unless (eqb (length calls % callSize) 0) 101 0
     ∷ unless (leb (countOf calls) (unreadable calls)) 102 (unreadable calls)
-    ∷ unless (leb (40 * countOf calls) room) 103 0
+    ∷ unless (leb (answerSize * countOf calls) room) 103 0
     ∷ [])
 
 -- Then the file's refusals, then opening's.
@@ -47,27 +48,27 @@ unfoldable pub replayCheck : List ℕ → List ℕ → ℕ → Outcome
 replayCheck file calls room = first (listCheck calls room ∷ fileCheck file ∷ [])
 
 -- The first n calls with the machine's answers, the newest first, and the bytes of these answers, the oldest first.
-unfoldable pub eventsOf : Table → List ℕ → ℕ → List Event
+unfoldable pub eventsOf : Contents → List ℕ → ℕ → List Event
 eventsOf t calls zero = []
 eventsOf t calls (suc n) = event (callAt calls n) (answer (machine t (eventsOf t calls n)) (callAt calls n)) ∷ eventsOf t calls n
 
-unfoldable pub answersOf : Table → List ℕ → ℕ → List ℕ
+unfoldable pub answersOf : Contents → List ℕ → ℕ → List ℕ
 answersOf t calls zero = []
 answersOf t calls (suc n) = answersOf t calls n ++ answerBytes (answer (machine t (eventsOf t calls n)) (callAt calls n))
 
 -- The buffer: the answers, then its own bytes behind them; at a refusal every byte as it was.
-abbrev pub bufferBy : Outcome → Table → List ℕ → List ℕ → List ℕ
-bufferBy accepted t calls buffer = answersOf t calls (countOf calls) ++ drop (40 * countOf calls) buffer
+abbrev pub bufferBy : Outcome → Contents → List ℕ → List ℕ → List ℕ
+bufferBy accepted t calls buffer = answersOf t calls (countOf calls) ++ drop (answerSize * countOf calls) buffer
 bufferBy (refused n p) t calls buffer = buffer
 
 -- A list that ran: it is a run, from opening by calls that keep their promises, and demand 3 holds of it.
 pub record Ran (t : Table) (es : List Event) : Type 0 where
   pub port : Port
   pub run : Run t es port
-  pub demand3 : Demand3 t es port
+  pub demand3 : Demand3 (contents t) es port
 
 -- The promise of a replay.
 pub record Replayed (file calls before after : List ℕ) (r : ℕ) : Type 0 where
   pub code : r ≡ codeOf (replayCheck file calls (length before))
-  pub buffer : after ≡ bufferBy (replayCheck file calls (length before)) (readFile file .table) calls before
-  pub ran : replayCheck file calls (length before) ≡ accepted → Ran (readFile file .table) (eventsOf (readFile file .table) calls (countOf calls))
+  pub buffer : after ≡ bufferBy (replayCheck file calls (length before)) (contents (readFile file .table)) calls before
+  pub ran : replayCheck file calls (length before) ≡ accepted → Ran (readFile file .table) (eventsOf (contents (readFile file .table)) calls (countOf calls))

@@ -2,31 +2,33 @@
 ghost use mathlib.Core.Path.{_≡_};
 ghost use Prim.Native.Nat.{_+_, _*_, _≤_};
 ghost use lib.ListN.{length};
-ghost use Rattle.replay.specs.Calls.{isReadable};
-ghost use Rattle.replay.specs.Codes.{codeOf};
+ghost use Rattle.codes.specs.Codes.{codeOf};
+ghost use Rattle.callbytes.specs.Calls.{callSize, answerSize, isReadable};
 ghost use Rattle.replay.specs.List.{askedAt, lowest, countOf, listCheck, Replayed};
 ghost use Rattle.replay.specs.Steps.{Listed};
-use crate::Asked;
-use crate::calls::is_readable;
-use crate::calls::read_call;
-use crate::codes::code;
-use crate::opened::open_file;
-use crate::turn::step;
+use callbytes::Asked;
+use callbytes::answers::ANSWER_SIZE;
+use callbytes::calls::CALL_SIZE;
+use callbytes::calls::is_readable;
+use callbytes::calls::read_call;
+use codes::code;
 use machine::Port;
+use turns::opened::open_file;
+use turns::turn::step;
 
 // The call of number i.
 fn asked_at(calls: &[u8], i: usize) -> Asked
-    requires { ⌜ 24 * i + 24 ≤ length (now calls) ⌝ }
+    requires { ⌜ callSize * i + callSize ≤ length (now calls) ⌝ }
     ensures { λ r. ⌜ r ≡ askedAt (now (calls .entry)) i ⌝ }
 {
-    let from = 24 * i;
-    let to = from + 24;
+    let from = CALL_SIZE * i;
+    let to = from + CALL_SIZE;
     read_call(&calls[from..to])
 }
 
 // The first of n calls that cannot be read, or n.
 fn first_unreadable(calls: &[u8], n: usize) -> usize
-    requires { ⌜ 24 * n ≤ length (now calls) ⌝ }
+    requires { ⌜ callSize * n ≤ length (now calls) ⌝ }
     ensures { λ r. ⌜ r ≡ lowest n (λ i. isReadable (askedAt (now (calls .entry)) i)) ⌝ }
 {
     let mut i: usize = 0;
@@ -43,15 +45,15 @@ fn first_unreadable(calls: &[u8], n: usize) -> usize
 fn list_check(calls: &[u8], room: usize) -> u64
     ensures { λ r. ⌜ r ≡ codeOf (listCheck (now (calls .entry)) room) ⌝ }
 {
-    if calls.len() % 24 != 0 {
+    if calls.len() % CALL_SIZE != 0 {
         return code(101, 0);
     }
-    let n = calls.len() / 24;
+    let n = calls.len() / CALL_SIZE;
     let k = first_unreadable(calls, n);
     if k < n {
         return code(102, k);
     }
-    if room / 40 < n {
+    if room / ANSWER_SIZE < n {
         return code(103, 0);
     }
     0
@@ -59,15 +61,15 @@ fn list_check(calls: &[u8], room: usize) -> u64
 
 // All calls, one answer behind the other.
 fn steps(port: Port, calls: &[u8], out: &mut [u8])
-    requires { ⌜ 40 * countOf (now calls) ≤ length (now out) ⌝ }
+    requires { ⌜ answerSize * countOf (now calls) ≤ length (now out) ⌝ }
     ensures { λ _. ⌜ Listed port (now (calls .entry)) (now (out .entry)) (now (out .exit)) ⌝ }
 {
-    let count = calls.len() / 24;
+    let count = calls.len() / CALL_SIZE;
     let mut p = port;
     let mut i: usize = 0;
     while i < count {
         let asked = asked_at(calls, i);
-        let at = 40 * i;
+        let at = ANSWER_SIZE * i;
         let s = step(p, asked, &mut out[at..]);
         p = s.port;
         i += 1;
@@ -75,8 +77,7 @@ fn steps(port: Port, calls: &[u8], out: &mut [u8])
 }
 
 // The port of a table file, and all calls on it. At a refusal no byte is written.
-#[no_mangle]
-pub extern "C" fn ithumeco_replay(file: &[u8], calls: &[u8], out: &mut [u8]) -> u64
+pub fn replay(file: &[u8], calls: &[u8], out: &mut [u8]) -> u64
     ensures { λ r. ⌜ Replayed (now (file .entry)) (now (calls .entry)) (now (out .entry)) (now (out .exit)) r ⌝ }
 {
     let misfit = list_check(calls, out.len());

@@ -1,129 +1,125 @@
 -- Reading and writing undo each other.
-use Prim.Native.Nat.{ℕ, _+_, _-_, _≤_}
-use mathlib.Core.Bool.{Bool, true, false, cond}
+use Prim.Native.Nat.{ℕ, _-_, _≤_}
 use mathlib.Core.List.{List, [], _++_, append-nil}
 use mathlib.Core.Path.{_≡_, refl, sym, _∙_, ap}
 use native.Mathlib.Omega.{arith}
-use lib.Dec.{ltb}
-use lib.ListN.{length, getD, drop, replicate, drop-of-length-le}
+use lib.Dec.{leb}
+use lib.ListN.{length, drop, replicate, length-append, drop-of-length-le}
 use lib.Seq.{take-at, drop-at}
-use borrow.Author.Tests.{ltb-false, le-ltb}
-use Rattle.planner.specs.declared.Class.{Class}
-use Rattle.planner.specs.declared.Class.the-variants.{A, B}
-use Rattle.planner.specs.declared.Row.{Row}
-use Rattle.planner.specs.declared.Table.{Table}
-use Rattle.planner.specs.Rows.{noRow, rowsOf, idle}
-use Rattle.planner.specs.Opening.{Outcome, accepted, refused, ranged}
-use Rattle.planner.proofs.Laws as law
+use borrow.Author.Tests.{leb-true, le-leb}
+use Rattle.table.specs.declared.Row.{Row}
+use Rattle.table.specs.Limits.{mostRows}
+use Rattle.table.specs.Rows.{noRow, Contents, rowsOf, contents}
+use Rattle.table.specs.Checks.{Outcome, accepted, first}
+use Rattle.table.specs.Ranges.{ranged, Ranges}
 use Rattle.tablefile.specs.Layout.{headerSize}
-use Rattle.tablefile.specs.Reading.{RowsRead, all, stop, readRows, header, tableOf, FileRead, refusedFile, atEnd, afterHeader, readFile}
+use Rattle.tablefile.specs.Reading.{headerOf, rowCount, header, rowsChecks, rowsFrom, fileEnd, fileChecks, tableOf, tableBy, readFile}
 use Rattle.tablefile.specs.Writing.{headerBytes, rowsBytes, fileOf}
 use Rattle.tablefile.specs.RoundTrip.{Bytes, ReadBack, ReadingWritten, WritingRead, ReadInRange, AsLong}
-use Rattle.tablefile.proofs.RowsTrip.{rows-back, RowsOf, rows-of}
-use Rattle.tablefile.proofs.HeaderTrip.{header-if, idlea-back, idleb-back, payload-back, count-back, rest-back, header-length, header-back, header-of}
+use Rattle.tablefile.proofs.Rows.{accept-first}
+use Rattle.tablefile.proofs.RowsTrip.{RowsBack, rows-back, RowsOf, rows-of}
+use Rattle.tablefile.proofs.HeaderTrip.{header-if, count-back, rest-back, header-length, values-back, header-back, header-of}
+use Rattle.table.proofs.Laws as law
 
--- a file that reads, and its table
-abbrev whole : List ℕ → List Row → FileRead
-whole s rs = record { outcome = accepted; table = tableOf s rs }
-
--- the table's used rows are the rows that were read
-used-rows : (s : List ℕ) (rs : List Row) → length rs ≡ getD s 14 0 → rowsOf (tableOf s rs) ≡ rs
-unfolding rowsOf
-used-rows s rs e = take-at rs (replicate (32 - length rs) noRow) (getD s 14 0) e
+-- what a table says that was read: the header's values, and the rows that were read
+contents-read : (s : List ℕ) (rs : List Row) → length rs ≡ rowCount s → contents (tableOf s rs) ≡ record { header = headerOf s; rows = rs }
+contents-read s rs e =
+    let more = replicate (mostRows - length rs) noRow in
+    let room : rowCount s ≤ length (rs ++ more) = rw (length-append rs more) (omega arith) in
+    let used : rowsOf (tableOf s rs) ≡ rs = law.rows-are (tableOf s rs) room ∙ take-at rs more (rowCount s) e in
+    ap (λ (l : List Row). record { header = headerOf s; rows = l }) used
 
 -- ---- reading what was written
-module _ (t : Table) (long : length (t .rows) ≡ 32) (g : law.Ranges t) where
+module _ (t : Contents) (g : Ranges t) where
   abbrev rest : List ℕ
-  rest = rowsBytes (rowsOf t)
+  rest = rowsBytes (t .rows)
 
   abbrev file : List ℕ
   file = headerBytes t ++ rest
 
-  counted : length (rowsOf t) ≡ getD file 14 0
-  counted = law.rows-length t long (g .most) ∙ sym (count-back t rest)
+  rows : RowsBack (t .rows) file headerSize
+  rows = rows-back (t .rows) file headerSize [] (g .rows) (rest-back t rest ∙ sym (append-nil rest))
 
-  rows-read : readRows (getD file 14 0) file headerSize ≡ all (rowsOf t) (headerSize + length rest)
-  rows-read = rw (← counted) (rows-back (rowsOf t) file headerSize [] (g .rows) (rest-back t rest ∙ sym (append-nil rest)))
+  rows-read : rowsFrom (rowCount file) file headerSize ≡ t .rows
+  rows-read = rw (count-back t rest) (rows .rows)
 
-  file-read : readFile file ≡ whole file (rowsOf t)
+  rows-pass : first (rowsChecks (rowCount file) file headerSize) ≡ accepted
+  rows-pass = rw (count-back t rest) (accept-first (rowsChecks (length (t .rows)) file headerSize) (rows .checks))
+
+  no-more : length file ≤ fileEnd file
+  no-more = rw (count-back t rest, rows .end) (omega (arith, header-length t rest))
+
+  passes : first (fileChecks file) ≡ accepted
+  passes = rw (header-back t rest g, rows-pass, le-leb (length file) (fileEnd file) no-more) refl
+
+  table-read : readFile file .table ≡ tableOf file (t .rows)
   unfolding readFile
-  file-read = rw (header-back t rest g, rows-read, le-ltb (headerSize + length rest) (length file) (omega (arith, header-length t rest))) refl
+  table-read = ap (λ (o : Outcome). tableBy o file) passes ∙ ap (tableOf file) rows-read
 
-  read-back : ReadBack t (whole file (rowsOf t))
+  outcome-read : readFile file .outcome ≡ accepted
+  unfolding readFile
+  outcome-read = passes
+
+  read-back : ReadBack t (readFile file)
   read-back =
       record {
-        outcome = refl;
-        idlea = idlea-back t rest;
-        idleb = idleb-back t rest;
-        payload = payload-back t rest;
-        count = count-back t rest;
-        used = used-rows file (rowsOf t) counted;
-        unused = rw (drop-at (rowsOf t) (replicate (32 - length (rowsOf t)) noRow) (t .count) (law.rows-length t long (g .most)), law.rows-length t long (g .most)) refl;
+        outcome = outcome-read;
+        contents = ap contents table-read ∙ contents-read file (t .rows) (sym (count-back t rest)) ∙ rw (values-back t rest g) refl;
+        unused = rw table-read (drop-at (t .rows) (replicate (mostRows - length (t .rows)) noRow) (length (t .rows)) refl);
       }
 
 pub reading-written : ReadingWritten
 unfolding fileOf
-reading-written t long ok = let g = law.ranged-if t ok in rw (file-read t long g) (read-back t long g)
+reading-written t ok = read-back t (law.ranged-if t ok)
 
 -- ---- writing what was read
--- a file that reads is accepted by its header, its rows are read, and nothing stands behind them
-record Whole (s : List ℕ) : Type 0 where
-  rows : List Row
-  end : ℕ
+module _ (s : List ℕ) (b : Bytes s) (e : first (fileChecks s) ≡ accepted) where
+  abbrev read : List Row
+  read = rowsFrom (rowCount s) s headerSize
+
   heads : header s ≡ accepted
-  reads : readRows (getD s 14 0) s headerSize ≡ all rows end
-  ends : length s ≤ end
-  table : readFile s .table ≡ tableOf s rows
+  heads = law.all-accept (fileChecks s) e .0
 
-headed : (s : List ℕ) (o : Outcome) → afterHeader s o .outcome ≡ accepted → o ≡ accepted
-headed s accepted e = refl
-headed s (refused n p) e = law.never e
+  parts : RowsOf (rowCount s) s headerSize
+  parts = rows-of (rowCount s) s headerSize b (law.all-accept (rowsChecks (rowCount s) s headerSize) (law.all-accept (fileChecks s) e .1 .0))
 
-ended : (s : List ℕ) (x : RowsRead) → atEnd s x .outcome ≡ accepted → (rs : List Row) × (end : ℕ) × (x ≡ all rs end) × (length s ≤ end) × (atEnd s x .table ≡ tableOf s rs)
-ended s (stop f place) e = law.never e
-ended s (all rs end) e = let x = go (ltb end (length s)) e in (rs, end, refl, ltb-false end (length s) (x .0), x .1)
-  where
-    go : (b : Bool) → cond b (refusedFile 7 end) (whole s rs) .outcome ≡ accepted → (b ≡ false) × (cond b (refusedFile 7 end) (whole s rs) .table ≡ tableOf s rs)
-    go true q = law.never q
-    go false q = (refl, refl)
+  ends : length s ≤ fileEnd s
+  ends = leb-true (length s) (fileEnd s) (law.unless-passes (leb (length s) (fileEnd s)) 7 (fileEnd s) (law.all-accept (fileChecks s) e .1 .1 .0))
 
-whole-of : (s : List ℕ) → readFile s .outcome ≡ accepted → Whole s
-unfolding readFile
-whole-of s e =
-    let heads : header s ≡ accepted = headed s (header s) e in
-    let read : readFile s ≡ atEnd s (readRows (getD s 14 0) s headerSize) = ap (afterHeader s) heads in
-    let x = ended s (readRows (getD s 14 0) s headerSize) (sym (ap (λ f. f .outcome) read) ∙ e) in
-    record { rows = x .0; end = x .1; heads = heads; reads = x .2; ends = x .3; table = ap (λ f. f .table) read ∙ x .4 }
+  said : contents (readFile s .table) ≡ record { header = headerOf s; rows = read }
+  unfolding readFile
+  said = ap (λ (o : Outcome). contents (tableBy o s)) e ∙ contents-read s read (parts .count)
 
--- so its rows are the rows of its table, and header and rows are all its bytes
-module _ (s : List ℕ) (b : Bytes s) (w : Whole s) where
-  parts : RowsOf (getD s 14 0) s headerSize (w .rows) (w .end)
-  parts = rows-of (getD s 14 0) s headerSize (w .rows) (w .end) b (w .reads)
+  rows-written : rowsBytes read ≡ drop headerSize s
+  rows-written = sym (append-nil (rowsBytes read)) ∙ ap (λ q. rowsBytes read ++ q) (sym (drop-of-length-le s ends)) ∙ sym (parts .bytes)
 
-  used : rowsOf (tableOf s (w .rows)) ≡ w .rows
-  used = used-rows s (w .rows) (parts .count)
-
-  rows-written : rowsBytes (rowsOf (tableOf s (w .rows))) ≡ drop headerSize s
-  rows-written = rw used (sym (append-nil (rowsBytes (w .rows))) ∙ ap (λ q. rowsBytes (w .rows) ++ q) (sym (drop-of-length-le s (w .ends))) ∙ sym (parts .bytes))
-
-  written : fileOf (readFile s .table) ≡ s
+  written : fileOf (contents (readFile s .table)) ≡ s
   unfolding fileOf
-  written = rw (w .table, rows-written) (sym (header-of s (w .rows) b (header-if s (w .heads))))
+  written = ap fileOf said ∙ ap (λ q. headerBytes (record { header = headerOf s; rows = read }) ++ q) rows-written ∙ sym (header-of s read b (header-if s heads) (parts .count))
 
-  in-range : ranged (readFile s .table) ≡ accepted
+  in-range : ranged (contents (readFile s .table)) ≡ accepted
   in-range =
-      let h = header-if s (w .heads) in
-      rw (w .table) (law.ranged-only-if (tableOf s (w .rows)) (record { some = h .some; most = h .most; slope = slopes (h .idlea) (h .idleb); best = h .payload; rows = rw used (parts .range) }))
-    where
-      slopes : tableOf s (w .rows) .idlea ≤ 750000 → tableOf s (w .rows) .idleb ≤ 750000 → (c : Class) → idle c (tableOf s (w .rows)) ≤ 750000
-      slopes x y A = x
-      slopes x y B = y
+      let h = header-if s heads in
+      rw said
+      (law.ranged-only-if (record { header = headerOf s; rows = read })
+      (record {
+        some = rw (parts .count) (h .some);
+        most = rw (parts .count) (h .most);
+        idlea = h .idlea;
+        idleb = h .idleb;
+        best = h .payload;
+        rows = parts .range;
+      }))
+
+passed : (s : List ℕ) → readFile s .outcome ≡ accepted → first (fileChecks s) ≡ accepted
+unfolding readFile
+passed s e = e
 
 pub writing-read : WritingRead
-writing-read s b e = written s b (whole-of s e)
+writing-read s b e = written s b (passed s e)
 
 pub read-in-range : ReadInRange
-read-in-range s b e = in-range s b (whole-of s e)
+read-in-range s b e = in-range s b (passed s e)
 
 pub as-long : AsLong
 as-long s b e = ap length (sym (writing-read s b e))

@@ -1,15 +1,11 @@
--- Laws that belong to no one function: of the reader, of the writer, and of both ways. `BothWays` has the theorems.
-mod Fields
-mod RowEnds
-mod Headers
-mod RowTurns
-mod Files
-mod Stores
-mod Stated
+-- Laws that belong to no one function. `BothWays` and `SameAnswers` have the theorems; `Laws` is what the crates above may cite.
 mod Sizes
+mod Rows
 mod FieldTrip
 mod MapTrip
 mod RowTrip
 mod RowsTrip
 mod HeaderTrip
 pub mod BothWays
+pub mod SameAnswers
+pub mod Laws

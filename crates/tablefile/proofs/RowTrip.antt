@@ -1,194 +1,207 @@
 -- A row's bytes, there and back.
-use Prim.Native.Nat.{ℕ, _+_, _≤_}
-use mathlib.Core.Bool.{true, false}
+use Prim.Native.Nat.{ℕ, _+_, _≤_, _<_}
+use mathlib.Core.Bool.{Bool, true, false, not, cond, _&&_}
 use mathlib.Core.List.{List, [], _∷_, _++_, append-assoc}
 use mathlib.Core.Path.{_≡_, refl, sym, _∙_, ap}
-use native.Mathlib.Nat.{le-refl}
+use native.Mathlib.Nat.{add-zero}
 use native.Mathlib.Omega.{arith}
-use lib.Dec.{eqb}
-use lib.ListN.{length, drop, length-append}
-use borrow.Author.Tests.{eqb-true, ne-eqb, eq-eqb}
-use Rattle.planner.specs.declared.Class.{Class}
-use Rattle.planner.specs.declared.Class.the-variants.{A, B}
-use Rattle.planner.specs.declared.Row.{Row}
-use Rattle.planner.specs.Wire.{periodOf}
-use Rattle.planner.specs.Opening.{InRange}
-use Rattle.tablefile.specs.declared.Fault.{Fault}
-use Rattle.tablefile.specs.declared.FieldRead.{FieldRead}
-use Rattle.tablefile.specs.declared.FieldRead.the-variants as fields
-use Rattle.tablefile.specs.declared.RowRead.{RowRead}
-use Rattle.tablefile.specs.declared.RowRead.the-variants as rows
-use Rattle.tablefile.specs.Layout.{defaultPayload, defaultPeriod, defaultDeadline}
-use Rattle.tablefile.specs.Reading.{field, bit0, bit1, bit2, bits3to6, classOf, afterDeadline, readDeadline, afterPeriod, readPeriod, afterPayload, readPayload, readRow}
-use Rattle.tablefile.specs.Writing.{mapByte, rowBytes}
+use lib.Dec.{leb}
+use lib.ListN.{length, drop, length-append, length-drop}
+use borrow.Author.Tests.{eqb-true, eq-eqb, leb-true, le-leb}
+use Rattle.table.specs.declared.Class.{Class}
+use Rattle.table.specs.declared.Class.the-variants.{A, B}
+use Rattle.table.specs.declared.Row.{Row}
+use Rattle.table.specs.Limits.{mostPayload, leastPeriod, mostPeriod}
+use Rattle.table.specs.Wire.{periodOf}
+use Rattle.table.specs.Checks.{accepted}
+use Rattle.table.specs.Ranges.{InRange}
+use Rattle.tablefile.specs.Layout.{valueAt, bytesOf, Field, Payload, Period, Deadline, valueOf, widthOf, periodFor, defaultOf, bitOf, classOf, sizeIn, placeOf, rowSize}
+use Rattle.tablefile.specs.Reading.{mapOf, withValue, withField, rowFrom, fine, row}
+use Rattle.tablefile.specs.Writing.{mapByte, fieldBytes, rowBytes}
 use Rattle.tablefile.specs.RoundTrip.{Bytes}
-use Rattle.tablefile.proofs.FieldTrip.{fieldBytes, behind, field-back, field-of, passed, avoided}
-use Rattle.tablefile.proofs.MapTrip.{map-for, Says, map-says, map-back}
-
--- the bytes of a row's fields
-module _ (r : Row) where
-  abbrev payloadBytes : List ℕ
-  payloadBytes = fieldBytes false (r .payload) defaultPayload
-
-  abbrev periodBytes : List ℕ
-  periodBytes = fieldBytes true (r .period) (defaultPeriod (r .class))
-
-  abbrev deadlineBytes : List ℕ
-  deadlineBytes = fieldBytes true (r .deadline) (defaultDeadline (r .period))
-
-  row-bytes : rowBytes r ≡ mapByte r ∷ payloadBytes ++ periodBytes ++ deadlineBytes
-  unfolding rowBytes
-  row-bytes = refl
-
-  says : Says (mapByte r) (eqb (r .payload) defaultPayload) (eqb (r .period) (defaultPeriod (r .class))) (eqb (r .deadline) (defaultDeadline (r .period))) (r .class)
-  says = rw (map-for r) (map-says _ _ _ _)
+use Rattle.tablefile.proofs.Rows.{RowRead, row-only-if}
+use Rattle.tablefile.proofs.Sizes.{bytes-length, field-size, row-length}
+use Rattle.tablefile.proofs.FieldTrip.{below, value-back, byte-below, bytes-at, behind}
+use Rattle.tablefile.proofs.MapTrip.{usual, map-for, map-says, map-back}
+use Rattle.table.proofs.Laws as law
 
 -- ---- a row's bytes read as the row, whatever follows
-module _ (r : Row) (in-range : InRange r) (s : List ℕ) (at : ℕ) (rest : List ℕ) where
-  deadline-back : drop at s ≡ deadlineBytes r ++ rest → readDeadline (mapByte r) (r .payload) (r .period) s at ≡ rows.Row r (at + length (deadlineBytes r))
-  unfolding readDeadline periodOf
-  deadline-back e =
-      rw (says r .class, says r .deadline, field-back true 1 (r .period) (r .period) (r .deadline) s at rest (in-range .positive) (in-range .deadline) e) refl
+fine-in : (r : Row) → InRange r → (f : Field) → fine f r ≡ true
+fine-in r g Payload = le-leb _ _ (g .payload)
+fine-in r g Period = rw (le-leb _ _ (g .shortest), le-leb _ _ (g .longest)) refl
+fine-in r g Deadline = rw (le-leb _ _ (g .positive), le-leb _ _ (g .deadline)) refl
 
-  period-back : drop at s ≡ periodBytes r ++ rest → readPeriod (mapByte r) (r .payload) s at ≡ readDeadline (mapByte r) (r .payload) (r .period) s (at + length (periodBytes r))
-  unfolding readPeriod periodOf
-  period-back e =
-      rw (says r .class, says r .period, field-back true 84 1000000000 (defaultPeriod (r .class)) (r .period) s at rest (in-range .shortest) (in-range .longest) e) refl
+fits : (r : Row) → InRange r → (f : Field) → valueOf f r < below (widthOf f)
+unfolding periodOf
+fits r g Payload = omega (arith, g .payload)
+fits r g Period = omega (arith, g .longest)
+fits r g Deadline = omega (arith, g .deadline, g .longest)
 
-payload-back : (r : Row) → InRange r → (s rest : List ℕ) → drop 1 s ≡ payloadBytes r ++ rest → readPayload (mapByte r) s ≡ readPeriod (mapByte r) (r .payload) s (1 + length (payloadBytes r))
-unfolding readPayload
-payload-back r in-range s rest e =
-    rw (says r .payload, field-back false 0 1500 defaultPayload (r .payload) s 1 rest (omega arith) (in-range .payload) e) refl
+true-not : (b : Bool) → true ≡ not b → b ≡ false
+true-not true e = cc
+true-not false e = refl
+
+false-not : (b : Bool) → false ≡ not b → b ≡ true
+false-not true e = refl
+false-not false e = cc
+
+width-some : (f : Field) → 1 ≤ widthOf f
+width-some Payload = omega arith
+width-some Period = omega arith
+width-some Deadline = omega arith
 
 -- the row's bytes and what follows them, field after field
 module _ (r : Row) (rest : List ℕ) where
   abbrev spread : List ℕ
-  spread = mapByte r ∷ payloadBytes r ++ (periodBytes r ++ (deadlineBytes r ++ rest))
+  spread = mapByte r ∷ fieldBytes Payload r ++ (fieldBytes Period r ++ (fieldBytes Deadline r ++ rest))
 
   spread-out : rowBytes r ++ rest ≡ spread
-  spread-out = rw (row-bytes r) (simp append-assoc)
+  unfolding rowBytes
+  spread-out = simp append-assoc
 
-  sizes : 1 + length (payloadBytes r) + length (periodBytes r) + length (deadlineBytes r) ≡ length (rowBytes r)
-  sizes = rw (row-bytes r) (omega (arith, length-append (payloadBytes r ++ periodBytes r) (deadlineBytes r), length-append (payloadBytes r) (periodBytes r)))
+  abbrev after : Field → List ℕ
+  after Payload = fieldBytes Period r ++ (fieldBytes Deadline r ++ rest)
+  after Period = fieldBytes Deadline r ++ rest
+  after Deadline = rest
 
-  spread-back : InRange r → readRow spread ≡ rows.Row r (length (rowBytes r))
-  unfolding readRow
-  spread-back in-range =
-      let at-period = behind spread 1 (payloadBytes r) (periodBytes r ++ (deadlineBytes r ++ rest)) refl in
-      let at-deadline = behind spread (1 + length (payloadBytes r)) (periodBytes r) (deadlineBytes r ++ rest) at-period in
-      rw (ne-eqb (length spread) 0 (λ z. omega arith), eq-eqb (bits3to6 (mapByte r)) 0 (says r .rest))
-      (payload-back r in-range spread (periodBytes r ++ (deadlineBytes r ++ rest)) refl
-      ∙ period-back r in-range spread (1 + length (payloadBytes r)) (deadlineBytes r ++ rest) at-period
-      ∙ deadline-back r in-range spread (1 + length (payloadBytes r) + length (periodBytes r)) rest at-deadline
-      ∙ ap (rows.Row r) sizes)
+  stands-at : (f : Field) → drop (placeOf f (mapByte r)) spread ≡ fieldBytes f r ++ after f
+  stands-at Payload = refl
+  stands-at Period = rw (← field-size Payload r) (behind spread 1 (fieldBytes Payload r) (after Payload) refl)
+  stands-at Deadline = rw (← field-size Payload r, ← field-size Period r) (behind spread (1 + length (fieldBytes Payload r)) (fieldBytes Period r) (after Period) (behind spread 1 (fieldBytes Payload r) (after Payload) refl))
 
-  pub row-back : InRange r → readRow (rowBytes r ++ rest) ≡ rows.Row r (length (rowBytes r))
-  row-back in-range = ap readRow spread-out ∙ spread-back in-range
+  module _ (g : InRange r) where
+    -- a field reads as its value
+    said : (f : Field) → cond (bitOf f (mapByte r)) (valueAt (widthOf f) spread (placeOf f (mapByte r))) (defaultOf f r) ≡ valueOf f r
+    said f = go (bitOf f (mapByte r)) refl (stands-at f)
+      where
+        go : (b : Bool) → bitOf f (mapByte r) ≡ b → drop (placeOf f (mapByte r)) spread ≡ cond b (bytesOf (widthOf f) (valueOf f r)) [] ++ after f
+            → cond b (valueAt (widthOf f) spread (placeOf f (mapByte r))) (defaultOf f r) ≡ valueOf f r
+        go true e d = value-back (widthOf f) (valueOf f r) spread (placeOf f (mapByte r)) (after f) (fits r g f) d
+        go false e d = sym (eqb-true (valueOf f r) (defaultOf f r) (false-not (usual f r) (sym e ∙ map-says r .field f)))
 
--- ---- bytes that read as a row: the fields that were read are the row's
--- a row was read, so its next field was
-value-of : (go : FieldRead → RowRead) (k : ℕ → ℕ → RowRead) → ((f : Fault) (p : ℕ) → go (fields.Refused f p) ≡ rows.Refused f p)
-    → ((v at : ℕ) → go (fields.Value v at) ≡ k v at) → (x : FieldRead) (r : Row) (n : ℕ) → go x ≡ rows.Row r n
-    → (v : ℕ) × (at : ℕ) × (x ≡ fields.Value v at) × (k v at ≡ rows.Row r n)
-value-of go k stops goes (fields.Value v at) r n e = (v, at, refl, sym (goes v at) ∙ e)
-value-of go k stops goes (fields.Refused f p) r n e = let q : rows.Refused f p ≡ rows.Row r n = sym (stops f p) ∙ e in let z : _≡_ {A = ℕ} 0 1 = cc in absurd (omega arith)
+    abbrev blank : Class → Row
+    blank c = record { class = c; payload = 0; period = 0; deadline = 0 }
 
--- fields that read as the same value up to the same place
-at-once : {v w at end : ℕ} → v ≡ w → at ≡ end → fields.Value v at ≡ fields.Value w end
-at-once e f = cc
+    spread-back : rowFrom spread ≡ r
+    unfolding rowFrom defaultOf periodOf
+    spread-back =
+        ap (λ (c : Class). withField Deadline spread (withField Period spread (withField Payload spread (blank c)))) (map-says r .class)
+        ∙ ap (λ (v : ℕ). withField Deadline spread (withField Period spread (withValue Payload (blank (r .class)) v))) (said Payload)
+        ∙ ap (λ (v : ℕ). withField Deadline spread (withValue Period (withValue Payload (blank (r .class)) (r .payload)) v)) (said Period)
+        ∙ ap (λ (v : ℕ). withValue Deadline (withValue Period (withValue Payload (blank (r .class)) (r .payload)) (r .period)) v) (said Deadline)
 
-module _ (m : ℕ) (s : List ℕ) (r : Row) (n : ℕ) where
-  abbrev payloadRead : FieldRead
-  payloadRead = field (bit0 m) false 0 1500 defaultPayload s 1
+    -- and stands within the bytes
+    inside : (f : Field) → bitOf f (mapByte r) ≡ true → placeOf f (mapByte r) + widthOf f ≤ length spread
+    inside f e =
+        let here : drop (placeOf f (mapByte r)) spread ≡ bytesOf (widthOf f) (valueOf f r) ++ after f = rw e at (stands-at f) in
+        omega (arith, sym (length-drop (placeOf f (mapByte r)) spread) ∙ ap length here, length-append (bytesOf (widthOf f) (valueOf f r)) (after f), bytes-length (widthOf f) (valueOf f r), width-some f)
 
-  abbrev periodRead : Class → ℕ → FieldRead
-  periodRead c at = field (bit1 m) true 84 1000000000 (defaultPeriod c) s at
+    other : (f : Field) → bitOf f (mapByte r) ≡ true → usual f r ≡ false
+    other f e = true-not (usual f r) (sym e ∙ map-says r .field f)
 
-  abbrev deadlineRead : ℕ → ℕ → FieldRead
-  deadlineRead period at = field (bit2 m) true 1 period (defaultDeadline period) s at
+    spread-reads : RowRead spread
+    spread-reads =
+        record {
+          long = omega arith;
+          bits = map-says r .rest;
+          field = λ f. rw spread-back (record { inside = λ e. le-leb _ _ (inside f e); ok = λ e. fine-in r g f; other = other f });
+        }
 
-  -- a row read from its deadline on, with a payload p and a period q before it
-  record FromDeadline (p q two : ℕ) : Type 0 where
-    class : classOf m ≡ r .class
-    payload : p ≡ r .payload
-    period : q ≡ r .period
-    deadline : deadlineRead q two ≡ fields.Value (r .deadline) n
+-- the row is read back, and accepted at any place
+pub row-back : (r : Row) (rest s : List ℕ) → InRange r → s ≡ rowBytes r ++ rest → rowFrom s ≡ r
+row-back r rest s g e = rw (e ∙ spread-out r rest) (spread-back r rest g)
 
-  from-deadline : (p q two : ℕ) → readDeadline m p q s two ≡ rows.Row r n → FromDeadline p q two
-  unfolding readDeadline
-  from-deadline p q two e =
-      let row : ℕ → Row = λ v. record { class = classOf m; payload = p; period = q; deadline = v } in
-      let x = value-of (afterDeadline (classOf m) p q) (λ v at. rows.Row (row v) at) (λ f place. refl) (λ v at. refl) (deadlineRead q two) r n e in
-      let known : rows.Row (row (x .0)) (x .1) ≡ rows.Row r n = x .3 in
-      let same : row (x .0) ≡ r = cc in
-      let end : x .1 ≡ n = cc in
-      let last : x .0 ≡ r .deadline = ap (λ (y : Row). y .deadline) same in
-      record { class = ap (λ (y : Row). y .class) same; payload = ap (λ (y : Row). y .payload) same; period = ap (λ (y : Row). y .period) same; deadline = x .2 ∙ at-once last end }
+pub row-accepted : (r : Row) (rest s : List ℕ) (at : ℕ) → InRange r → s ≡ rowBytes r ++ rest → row s at ≡ accepted
+row-accepted r rest s at g e = rw (e ∙ spread-out r rest) (row-only-if (spread r rest) at (spread-reads r rest g))
 
-  -- a row read as a whole: period and deadline stand at places one and two
-  record Fields : Type 0 where
-    one : ℕ
-    two : ℕ
-    class : classOf m ≡ r .class
-    payload : payloadRead ≡ fields.Value (r .payload) one
-    period : periodRead (r .class) one ≡ fields.Value (r .period) two
-    deadline : deadlineRead (r .period) two ≡ fields.Value (r .deadline) n
+pub row-size-back : (r : Row) (rest s : List ℕ) → s ≡ rowBytes r ++ rest → rowSize (mapOf s) ≡ length (rowBytes r)
+row-size-back r rest s e = rw (e ∙ spread-out r rest) (sym (row-length r))
 
-  fields-from : (p q one two : ℕ) → payloadRead ≡ fields.Value p one → periodRead (classOf m) one ≡ fields.Value q two → FromDeadline p q two → Fields
-  fields-from p q one two x y z =
+-- ---- bytes that read as a row are the row's bytes, and the row is in range
+pub record RowOf (s : List ℕ) : Type 0 where
+  pub bytes : s ≡ rowBytes (rowFrom s) ++ drop (rowSize (mapOf s)) s
+  pub range : InRange (rowFrom s)
+
+value-read : (f : Field) (s : List ℕ) → valueOf f (rowFrom s) ≡ cond (bitOf f (mapOf s)) (valueAt (widthOf f) s (placeOf f (mapOf s))) (defaultOf f (rowFrom s))
+unfolding rowFrom defaultOf periodOf
+value-read Payload s = refl
+value-read Period s = refl
+value-read Deadline s = refl
+
+stated : (f : Field) (s : List ℕ) → bitOf f (mapOf s) ≡ true → valueOf f (rowFrom s) ≡ valueAt (widthOf f) s (placeOf f (mapOf s))
+stated f s e = value-read f s ∙ rw e refl
+
+unstated : (f : Field) (s : List ℕ) → bitOf f (mapOf s) ≡ false → valueOf f (rowFrom s) ≡ defaultOf f (rowFrom s)
+unstated f s e = value-read f s ∙ rw e refl
+
+-- a default is in range, the deadline's where the period is
+fine-usual : (f : Field) (r : Row) → valueOf f r ≡ defaultOf f r → (f ≡ Deadline → fine Period r ≡ true) → fine f r ≡ true
+unfolding defaultOf periodOf
+fine-usual Payload r e g = le-leb (r .payload) mostPayload (omega arith)
+fine-usual Period r e g = go (r .class) e
+  where
+    go : (c : Class) → r .period ≡ periodFor c → (leb leastPeriod (r .period) && leb (r .period) mostPeriod) ≡ true
+    go A q = rw q refl
+    go B q = rw q refl
+fine-usual Deadline r e g =
+    let p = law.and-true (leb leastPeriod (r .period)) (leb (r .period) mostPeriod) (g refl) in
+    rw (le-leb 1 (r .deadline) (omega (arith, leb-true leastPeriod (r .period) (p .0))), le-leb (r .deadline) (r .period) (omega arith)) refl
+
+module _ (s : List ℕ) (x : RowRead s) where
+  fine-read : (f : Field) → (f ≡ Deadline → fine Period (rowFrom s) ≡ true) → fine f (rowFrom s) ≡ true
+  fine-read f g = go (bitOf f (mapOf s)) refl
+    where
+      go : (b : Bool) → bitOf f (mapOf s) ≡ b → fine f (rowFrom s) ≡ true
+      go true e = x .field f .ok e
+      go false e = fine-usual f (rowFrom s) (unstated f s e) g
+
+  no-deadline : Period ≡ Deadline → fine Period (rowFrom s) ≡ true
+  no-deadline e = let z : _≡_ {A = ℕ} 0 1 = cc in absurd (omega arith)
+
+  in-range : InRange (rowFrom s)
+  in-range =
+      let r = rowFrom s in
+      let period = fine-read Period no-deadline in
+      let p = law.and-true (leb leastPeriod (periodOf r)) (leb (periodOf r) mostPeriod) period in
+      let d = law.and-true (leb 1 (r .deadline)) (leb (r .deadline) (periodOf r)) (fine-read Deadline (λ e. period)) in
       record {
-        one = one;
-        two = two;
-        class = z .class;
-        payload = rw (← z .payload) x;
-        period = rw (← z .period, ← z .class) y;
-        deadline = rw (← z .period) (z .deadline);
+        payload = leb-true _ _ (fine-read Payload (λ e. period));
+        shortest = leb-true _ _ (p .0);
+        longest = leb-true _ _ (p .1);
+        positive = leb-true _ _ (d .0);
+        deadline = leb-true _ _ (d .1);
       }
 
-  fields-of : readPayload m s ≡ rows.Row r n → Fields
-  unfolding readPayload readPeriod
-  fields-of e =
-      let x = value-of (afterPayload m s) (λ v at. readPeriod m v s at) (λ f place. refl) (λ v at. refl) payloadRead r n e in
-      let y = value-of (afterPeriod m (x .0) s) (λ v at. readDeadline m (x .0) v s at) (λ f place. refl) (λ v at. refl) (periodRead (classOf m) (x .1)) r n (x .3) in
-      fields-from (x .0) (y .0) (x .1) (y .1) (x .2) (y .2) (from-deadline (x .0) (y .0) (y .1) (y .3))
+  read-usual : (f : Field) → not (bitOf f (mapOf s)) ≡ usual f (rowFrom s)
+  read-usual f = go (bitOf f (mapOf s)) refl
+    where
+      go : (b : Bool) → bitOf f (mapOf s) ≡ b → not b ≡ usual f (rowFrom s)
+      go true e = sym (x .field f .other e)
+      go false e = sym (eq-eqb _ _ (unstated f s e))
 
--- ---- and so the bytes are the row's, and the row is in range
-pub record RowOf (s : List ℕ) (r : Row) (n : ℕ) : Type 0 where
-  pub bytes : s ≡ rowBytes r ++ drop n s
-  pub size : n ≡ length (rowBytes r)
-  pub range : InRange r
+  class-read : rowFrom s .class ≡ classOf (mapOf s)
+  unfolding rowFrom
+  class-read = refl
 
--- a default is in range too
-default-least : (c : Class) → 84 ≤ defaultPeriod c
-default-least A = omega arith
-default-least B = omega arith
+  map-read : Bytes s → mapByte (rowFrom s) ≡ mapOf s
+  map-read b = map-for (rowFrom s) ∙ rw (← read-usual Payload, ← read-usual Period, ← read-usual Deadline, class-read) (sym (map-back (mapOf s) (byte-below s b 0) (x .bits)))
 
-default-most : (c : Class) → defaultPeriod c ≤ 1000000000
-default-most A = omega arith
-default-most B = omega arith
+  field-read : Bytes s → (f : Field) → drop (placeOf f (mapOf s)) s ≡ fieldBytes f (rowFrom s) ++ drop (placeOf f (mapOf s) + sizeIn f (mapOf s)) s
+  field-read b f = rw (map-read b) (go (bitOf f (mapOf s)) refl)
+    where
+      go : (a : Bool) → bitOf f (mapOf s) ≡ a → drop (placeOf f (mapOf s)) s ≡ cond a (bytesOf (widthOf f) (valueOf f (rowFrom s))) [] ++ drop (placeOf f (mapOf s) + cond a (widthOf f) 0) s
+      go true e = rw (stated f s e) (bytes-at (widthOf f) s (placeOf f (mapOf s)) b (leb-true _ _ (x .field f .inside e)))
+      go false e = rw (add-zero (placeOf f (mapOf s))) refl
 
-joined : (m : ℕ) (p : List ℕ) (r : Row) (n : ℕ) → Bytes (m ∷ p) → bits3to6 m ≡ 0 → Fields m (m ∷ p) r n → RowOf (m ∷ p) r n
-unfolding periodOf
-joined m p r n b none f =
+pub row-of : (s : List ℕ) → Bytes s → RowRead s → RowOf s
+row-of [] b x = absurd (omega (arith, x .long))
+row-of (m ∷ p) b x =
     let s = m ∷ p in
-    let x = field-of (bit0 m) false 0 1500 defaultPayload s 1 (r .payload) (f .one) b (omega arith) (omega arith) (f .payload) in
-    let y = field-of (bit1 m) true 84 1000000000 (defaultPeriod (r .class)) s (f .one) (r .period) (f .two) b (default-least (r .class)) (default-most (r .class)) (f .period) in
-    let z = field-of (bit2 m) true 1 (r .period) (r .period) s (f .two) (r .deadline) n b (omega (arith, y .least)) (le-refl (r .period)) (f .deadline) in
-    let map : mapByte r ≡ m = map-for r ∙ rw (← x .bit, ← y .bit, ← z .bit, ← f .class) (sym (map-back m (b .0) none)) in
-    let all : p ≡ payloadBytes r ++ (periodBytes r ++ (deadlineBytes r ++ drop n s)) = x .bytes ∙ ap (λ q. payloadBytes r ++ q) (y .bytes ∙ ap (λ q. periodBytes r ++ q) (z .bytes)) in
+    let r = rowFrom s in
+    let end = drop (rowSize m) s in
+    let all : p ≡ fieldBytes Payload r ++ (fieldBytes Period r ++ (fieldBytes Deadline r ++ end)) =
+    field-read s x b Payload ∙ ap (λ q. fieldBytes Payload r ++ q) (field-read s x b Period ∙ ap (λ q. fieldBytes Period r ++ q) (field-read s x b Deadline)) in
     record {
-      bytes = ap (λ q. m ∷ q) all ∙ ap (λ q. q ∷ payloadBytes r ++ (periodBytes r ++ (deadlineBytes r ++ drop n s))) (sym map) ∙ sym (spread-out r (drop n s));
-      size = omega (arith, x .size, y .size, z .size, sizes r []);
-      range = record { payload = x .most; shortest = y .least; longest = y .most; positive = z .least; deadline = z .most };
+      bytes = ap (λ q. m ∷ q) all ∙ ap (λ q. q ∷ fieldBytes Payload r ++ (fieldBytes Period r ++ (fieldBytes Deadline r ++ end))) (sym (map-read s x b)) ∙ sym (spread-out r end);
+      range = in-range s x;
     }
-
-no-row : (f : Fault) (p : ℕ) (r : Row) (n : ℕ) → rows.Refused f p ≡ rows.Row r n → ⊥
-no-row f p r n q = let z : _≡_ {A = ℕ} 0 1 = cc in omega arith
-
-pub row-of : (s : List ℕ) (r : Row) (n : ℕ) → Bytes s → readRow s ≡ rows.Row r n → RowOf s r n
-unfolding readRow
-row-of [] r n b e = absurd (no-row _ _ _ _ e)
-row-of (m ∷ p) r n b e =
-    let some = avoided (eqb (length (m ∷ p)) 0) _ _ _ (no-row _ _ _ _) e in
-    let known = passed (eqb (bits3to6 m) 0) _ _ _ (no-row _ _ _ _) (some .1) in
-    joined m p r n b (eqb-true (bits3to6 m) 0 (known .0)) (fields-of m (m ∷ p) r n (known .1))

@@ -1,65 +1,35 @@
--- A file row by row: what is done, with the rows that are left, is the whole.
-use Prim.Native.Nat.{ℕ, _+_, _-_, _≤_, _<_}
-use mathlib.Core.List.{List, [], _++_}
-use mathlib.Core.Path.{_≡_, refl, _∙_, ap}
+-- How many bytes a field and a row take, by the map byte's bits.
+use Prim.Native.Nat.{ℕ, zero, suc, _/_, _%_}
+use mathlib.Core.Bool.{Bool, true, false, cond}
+use mathlib.Core.List.{[], _∷_}
+use mathlib.Core.Path.{_≡_, refl, sym, _∙_}
 use native.Mathlib.Numerals.{add-one}
 use native.Mathlib.Omega.{arith}
-use lib.ListN.{length, getD, take, drop, length-append, length-drop, drop-of-length-le}
-use lib.Seq.{sets, length-sets, drop-cons}
-use Rattle.planner.specs.declared.Table.{Table}
-use Rattle.planner.specs.Rows.{noRow, rowsOf}
-use Rattle.planner.proofs.Laws.{rows-length, row-at}
-use Rattle.tablefile.specs.Layout.{headerSize}
-use Rattle.tablefile.specs.Writing.{rowBytes, rowsBytes, headerBytes, fileOf}
-use Rattle.tablefile.proofs.Stores.{sets-append, part-is, part-stored}
+use lib.ListN.{length, length-append}
+use Rattle.table.specs.declared.Row.{Row}
+use Rattle.tablefile.specs.Layout.{bytesOf, Field, Payload, Period, Deadline, valueOf, widthOf, bitOf, sizeIn, rowSize}
+use Rattle.tablefile.specs.Writing.{mapByte, fieldBytes, rowBytes}
 
--- the bytes of the row at i, and of the rows from i on
-abbrev pub this : Table → ℕ → List ℕ
-this t i = rowBytes (getD (t .rows) i noRow)
+module _ (f : Field) (m : ℕ) {b : Bool} (e : b ≡ bitOf f m) where
+  pub size-stated : b ≡ true → sizeIn f m ≡ widthOf f
+  size-stated h = rw (sym e ∙ h) refl
 
-abbrev pub rest : Table → ℕ → List ℕ
-rest t i = rowsBytes (drop i (rowsOf t))
+  pub size-unstated : b ≡ false → sizeIn f m ≡ 0
+  size-unstated h = rw (sym e ∙ h) refl
 
-pub header-length : (t : Table) → length (headerBytes t) ≡ headerSize
-unfolding headerBytes
-header-length t = refl
+pub bytes-length : (n v : ℕ) → length (bytesOf n v) ≡ n
+unfolding bytesOf
+bytes-length zero v = refl
+bytes-length (suc n) v = length-append (bytesOf n (v / 256)) (v % 256 ∷ []) ∙ rw (bytes-length n (v / 256), add-one n) refl
 
-pub size-start : (t : Table) → headerSize + length (rest t 0) ≡ length (fileOf t)
-unfolding fileOf
-size-start t = rw (length-append, header-length) refl
+pub field-size : (f : Field) (r : Row) → length (fieldBytes f r) ≡ sizeIn f (mapByte r)
+field-size f r = go (bitOf f (mapByte r))
+  where
+    go : (b : Bool) → length (cond b (bytesOf (widthOf f) (valueOf f r)) []) ≡ cond b (widthOf f) 0
+    go true = bytes-length (widthOf f) (valueOf f r)
+    go false = refl
 
-module _ (t : Table) (long : length (t .rows) ≡ 32) (few : t .count ≤ 32) (i : ℕ) where
-  rest-next : i < t .count → rest t i ≡ this t i ++ rest t (i + 1)
-  unfolding rowsBytes
-  rest-next h = rw (add-one, drop-cons (rowsOf t) i noRow (rw (rows-length t long few) h), row-at t long few i h) refl
-
-  rest-none : t .count ≤ i → rest t i ≡ []
-  unfolding rowsBytes
-  rest-none h = rw (drop-of-length-le (rowsOf t) {i = i} (rw (rows-length t long few) h)) refl
-
-  pub size-next : (n : ℕ) → i < t .count → n + length (rest t i) ≡ length (fileOf t) → n + length (this t i) + length (rest t (i + 1)) ≡ length (fileOf t)
-  size-next n h e = omega (arith, rw (rest-next h, length-append) at e)
-
-  pub size-end : (n : ℕ) → t .count ≤ i → n + length (rest t i) ≡ length (fileOf t) → n ≡ length (fileOf t)
-  size-end n h e = omega (arith, rw (rest-none h) at e)
-
-  pub stored-end : (at : ℕ) (xs : List ℕ) → t .count ≤ i → sets xs at (rest t i) ≡ xs
-  stored-end at xs h = rw (rest-none h) refl
-
-  -- a turn that writes the row at i into the part of xs behind the place at
-  module _ (at : ℕ) (xs : List ℕ) (h : i < t .count) (e : at + length (rest t i) ≡ length (fileOf t)) (room : length (fileOf t) ≤ length xs) where
-    pub row-room : at + length (this t i) ≤ length xs
-    row-room = omega (arith, size-next at h e)
-
-    pub part-room : length (this t i) ≤ length (take (length xs - at) (drop at xs))
-    part-room = rw (part-is at xs, length-drop) (omega (arith, row-room))
-
-    module _ {ys : List ℕ} (w : ys ≡ this t i ++ drop (length (this t i)) (take (length xs - at) (drop at xs))) where
-      done : take at xs ++ (ys ++ drop (length xs - at) (drop at xs)) ≡ sets xs at (this t i)
-      done = part-stored at xs (this t i) row-room w
-
-      pub stored-length : length (take at xs ++ (ys ++ drop (length xs - at) (drop at xs))) ≡ length xs
-      stored-length = ap length done ∙ length-sets xs at (this t i)
-
-      pub stored-next : sets (take at xs ++ (ys ++ drop (length xs - at) (drop at xs))) (at + length (this t i)) (rest t (i + 1)) ≡ sets xs at (rest t i)
-      stored-next = rw (done, rest-next h) (sets-append (this t i) (rest t (i + 1)) xs at)
+pub row-length : (r : Row) → length (rowBytes r) ≡ rowSize (mapByte r)
+unfolding rowBytes
+row-length r =
+    simp length-append (omega (arith, field-size Payload r, field-size Period r, field-size Deadline r))

@@ -1,10 +1,12 @@
 // The number of a fault.
 ghost use mathlib.Core.Path.{_≡_};
+ghost use Prim.Native.Nat.{_≤_};
 ghost use Rattle.tablefile.specs.Reading.{numberOf};
 use crate::Fault;
 
 pub fn number(f: Fault) -> u64
     ensures { λ n. ⌜ n ≡ numberOf f ⌝ }
+    ensures small { λ n. ⌜ n ≤ 7 ⌝ }
 {
     match f {
         Fault::CutShort => 1,

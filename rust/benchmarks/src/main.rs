@@ -73,7 +73,7 @@ fn lines() -> Vec<Line> {
         line(
             "byte-time, free wire, nothing waits (advances by 65,535)",
             by_byte_time(&three, &repeated(&[Call::Advance(65_535)], 40)),
-            Some(8.0),
+            Some(2.0),
             1.5,
         ),
         line(
@@ -82,7 +82,7 @@ fn lines() -> Vec<Line> {
                 &three,
                 &repeated(&[Call::OfferBest(1500), Call::Advance(1542)], 2_000),
             ),
-            Some(8.0),
+            Some(2.0),
             1.5,
         ),
         line(
@@ -91,7 +91,23 @@ fn lines() -> Vec<Line> {
                 &tables::of_long_waits(),
                 &tables::all_offered(1500, Call::Advance(65_535), 94),
             ),
-            Some(8.0),
+            Some(2.0),
+            1.5,
+        ),
+        line(
+            "advance by 65,535, free wire, nothing waits",
+            replayed(&three, &repeated(&[Call::Advance(65_535)], 40), 40),
+            None,
+            1.5,
+        ),
+        line(
+            "advance by 1,542 in which a frame goes out, with its offer",
+            replayed(
+                &three,
+                &repeated(&[Call::OfferBest(1500), Call::Advance(1542)], 2_000),
+                2_000,
+            ),
+            None,
             1.5,
         ),
         line(

@@ -7,6 +7,7 @@ use lib.ListN.{length, take, drop}
 use denote.Ref.{now}
 use borrow.Author.Needs.{needs}
 use Rattle.machine.specs.State.{view}
+use Rattle.texts.proofs.Laws.{answer-put}
 use Rattle.portrun.specs.Runs.{printed, told}
 use Rattle.portrun.proofs.Runs.{ends, goes-on, stops, answers}
 use Rattle.portrun.proofs.answer_all.Statement.{statement}
@@ -63,7 +64,9 @@ loop-again c =
     let s = c .before .before .before .before .before .before .before .before .args in
     ⊎-elim
     (λ w. (omega arith, omega (arith, w .6, l .inv .1), ap length (w .3) ∙ l .inv .2, rw (w .3, w .4, w .5, w .6) (goes-on (now (s .s)) (told (now (s .s)) (view (s .run .port)) (s .run .line)) (take (l .at) (l .out)) (l .i) (view (l .port)) (l .line) (l .inv .3) (c .before .step .result) (omega arith) (c .before .step .ensures) _ (w .1 .given .1))))
-    (λ w. (omega arith, omega (arith, w .12, w .6 .ensures .few, l .inv .1), ap length (w .9) ∙ w .6 .kept .0 ∙ l .inv .2, rw (w .9, w .10, w .11, w .12) (answers (now (s .s)) (told (now (s .s)) (view (s .run .port)) (s .run .line)) (take (l .at) (l .out)) (l .i) (view (l .port)) (l .line) (l .inv .3) (c .before .step .result) (omega arith) (c .before .step .ensures) _ (w .3 .result) (l .at) 50 (w .6 .result) (l .out) (w .6 .last .0) (w .1 .given .1) (w .3 .ensures) refl (w .6 .ensures))))
+    (λ w.
+    let put = answer-put {at = l .at} {next = w .6 .result} {before = l .out} {after = w .6 .last .0} (w .3 .result .answer) (omega (arith, l .inv .1, l .inv .2)) (w .6 .ensures .0) (w .6 .ensures .1) in
+    (omega arith, omega (arith, w .12, put .few, l .inv .1), ap length (w .9) ∙ w .6 .kept .0 ∙ l .inv .2, rw (w .9, w .10, w .11, w .12) (answers (now (s .s)) (told (now (s .s)) (view (s .run .port)) (s .run .line)) (take (l .at) (l .out)) (l .i) (view (l .port)) (l .line) (l .inv .3) (c .before .step .result) (omega arith) (c .before .step .ensures) _ (w .3 .result) (l .at) 50 (w .6 .result) (l .out) (w .6 .last .0) (w .1 .given .1) (w .3 .ensures) refl put)))
     (c .match .came)
 
 same-length-2 : tie.Need-same-length-2 Inv-loop μ-loop

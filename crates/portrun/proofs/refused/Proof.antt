@@ -1,8 +1,9 @@
--- `portrun::refused` is safe: a line has at most 50 bytes.
+-- `portrun::refused` is safe: a text that is put stays within its buffer.
 use mathlib.Core.Path.{sym}
 use native.Mathlib.Omega.{arith}
 use lib.Seq.{length-take-le}
 use borrow.Author.Needs.{needs}
+use Rattle.texts.proofs.Laws.{within}
 use Rattle.portrun.proofs.refused.Statement.{statement}
 use Rattle.portrun.proofs.refused.Tie as tie
 
@@ -16,10 +17,10 @@ put-answer-requires : tie.Need-put-answer-requires
 put-answer-requires c κs = search needs
 
 array-share-prefix-out : tie.Need-array-share-prefix-out
-array-share-prefix-out c = search needs
+array-share-prefix-out c = omega (arith, within _ _ _ (c .before .put-answer .ensures .0) (omega arith))
 
 slice-aggregate-write-all : tie.Need-slice-aggregate-write-all
-slice-aggregate-write-all c = sym (length-take-le _ _ (omega arith))
+slice-aggregate-write-all c = sym (length-take-le _ _ (omega (arith, within _ _ _ (c .before .before .put-answer .ensures .0) (omega arith))))
 
 write-all-requires : tie.Need-write-all-requires
 write-all-requires c κs = search needs

@@ -1,16 +1,20 @@
 -- `portsheet::opened` hands on an accepted table's rows: an accepted count is at most 32.
 use mathlib.Core.Path.{_≡_, refl, sym, _∙_, ap}
-use Rattle.planner.specs.declared.Verdict.{Verdict}
-use Rattle.planner.specs.declared.Table.{Table}
-use Rattle.planner.specs.Opening.{Outcome, accepted, outcomeOf, opening}
+use Rattle.table.specs.declared.Verdict.{Verdict}
+use Rattle.table.specs.declared.Table.{Table}
+use Rattle.table.specs.Limits.{mostRows}
+use Rattle.table.specs.Rows.{contents}
+use Rattle.table.specs.Checks.{accepted, outcomeOf}
+use Rattle.table.proofs.Laws.{rows-length}
+use Rattle.planner.specs.Opening.{opening}
 use Prim.Native.Nat.{_≤_}
 use Rattle.planner.proofs.Laws as law
 use borrow.Author.Needs.{needs}
 use Rattle.portsheet.proofs.opened.Statement.{statement}
 use Rattle.portsheet.proofs.opened.Tie as tie
 
-few : (t : Table) (v w : Verdict) → outcomeOf v ≡ opening t → v ≡ w → outcomeOf w ≡ accepted → t .count ≤ 32
-few t v w e f g = law.accepted-if t (sym e ∙ ap outcomeOf f ∙ g) .most
+few : (t : Table) (v w : Verdict) → outcomeOf v ≡ opening (contents t) → v ≡ w → outcomeOf w ≡ accepted → t .count ≤ mostRows
+few t v w e f g = rw rows-length at (law.accepted-if (contents t) (sym e ∙ ap outcomeOf f ∙ g) .ranges .most)
 
 of-table-requires : tie.Need-of-table-requires
 of-table-requires c κs = search needs

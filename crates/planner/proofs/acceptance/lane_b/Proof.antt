@@ -1,26 +1,15 @@
--- `planner::acceptance::lane_b` meets its contract: it is the definition, on figures that are the table's.
-use Prim.Native.Nat.{ℕ, max, _+_, _-_, _*_, _≤_}
-use mathlib.Core.Path.{_≡_, refl}
+-- `planner::acceptance::lane_b` meets its contract: it is the definition, and no number on the way is large.
+use Prim.Native.Nat.{ℕ, _*_, _≤_}
+use mathlib.Core.Path.{refl}
 use native.Mathlib.Nat.{mul-le-mul}
 use native.Mathlib.Omega.{arith}
-use Rattle.planner.specs.declared.Class.the-variants.{A, B}
-use Rattle.planner.specs.declared.Figures.{Figures}
-use Rattle.planner.specs.declared.Table.{Table}
-use Rattle.planner.specs.Wire.{wireSize, ceilDiv}
-use Rattle.planner.specs.Rows.{bestSize}
-use Rattle.planner.specs.Bound.{blocking}
-use Rattle.planner.specs.Plan.{laneOf}
-use Rattle.planner.specs.Steps.{figuresOf}
-use Rattle.planner.proofs.Division.{ceil-le}
+use Rattle.table.specs.Limits.{mostSlope, anySize}
+use Rattle.table.proofs.Laws.{ceil-le}
 use borrow.Author.Needs.{needs}
 use Rattle.planner.proofs.acceptance.lane_b.Statement.{statement}
 use Rattle.planner.proofs.acceptance.lane_b.Tie as tie
 
-made : (t : Table) {a b : Figures} {w m h : ℕ} → a ≡ figuresOf A t → b ≡ figuresOf B t → w ≡ wireSize (t .payload) → m ≡ max (1000000 * w) (t .idlea * b .largest) → h ≡ ceilDiv m (1000000 - t .idlea) → record { idle = t .idleb; largest = b .largest; total = b .total; blocking = a .largest + h } ≡ laneOf B t
-unfolding blocking bestSize
-made t ea eb ew em eh = rw (eh, em, ea, eb, ew) refl
-
-product : {i l : ℕ} → i ≤ 750000 → l ≤ 65577 → i * l ≤ 49182750000
+product : {i l : ℕ} → i ≤ mostSlope → l ≤ anySize → i * l ≤ mostSlope * anySize
 product h g = mul-le-mul h g
 
 wire-size-requires : tie.Need-wire-size-requires
@@ -33,9 +22,7 @@ mul-larger : tie.Need-mul-larger
 mul-larger c = search needs
 
 mul-larger-2 : tie.Need-mul-larger-2
-mul-larger-2 c =
-    let p = c .before .before .before .pre in
-    omega (arith, product (p .1 .0) (p .0 .small-b .largest))
+mul-larger-2 c = let p = c .before .before .before .pre in omega (arith, product (p .0) (p .1 .1 .1 .largest))
 
 larger-requires : tie.Need-larger-requires
 larger-requires c κs = search needs
@@ -47,23 +34,19 @@ sub-ceil-div : tie.Need-sub-ceil-div
 sub-ceil-div c = search needs
 
 ceil-div-requires : tie.Need-ceil-div-requires
-ceil-div-requires c κs =
-    let p = c .before .before .before .before .before .pre in
-    omega (arith, product (p .1 .0) (p .0 .small-b .largest))
+ceil-div-requires c κs = search needs
+
+-- what A saved up takes no longer than a byte-time a unit
+small : (c : tie.After-ceil-div) → c .ceil-div .result ≤ c .before .before .larger .result
+small c = rw (c .ceil-div .ensures) (ceil-le _ _)
 
 add-t10 : tie.Need-add-t10
-add-t10 c =
-    let p = c .before .before .before .before .before .before .before .pre in
-    let small : c .before .ceil-div .result ≤ c .before .before .before .larger .result = rw (c .before .ceil-div .ensures) (ceil-le _ _ (omega arith)) in
-    omega (arith, product (p .1 .0) (p .0 .small-b .largest))
+add-t10 c = let p = c .before .before .before .before .before .before .before .pre in omega (arith, small (c .before), product (p .0) (p .1 .1 .1 .largest))
 
 returns : tie.Need-returns
 returns c =
     let p = c .before .before .before .before .before .before .before .pre in
-    let small : c .before .ceil-div .result ≤ c .before .before .before .larger .result = rw (c .before .ceil-div .ensures) (ceil-le _ _ (omega arith)) in (
-      made _ (p .0 .is-a) (p .0 .is-b) (c .before .before .before .before .before .before .wire-size .ensures .0) (c .before .before .before .larger .ensures) (c .before .ceil-div .ensures),
-      omega (arith, product (p .1 .0) (p .0 .small-b .largest)),
-    )
+    (rw (c .before .ceil-div .ensures, c .before .before .before .larger .ensures, c .before .before .before .before .before .before .wire-size .ensures .0) refl, omega (arith, small (c .before), product (p .0) (p .1 .1 .1 .largest)))
 
 pub lane-b-spec : {M : Type 1} → statement M
 lane-b-spec =

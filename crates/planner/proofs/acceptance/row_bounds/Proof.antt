@@ -4,23 +4,22 @@ use mathlib.Core.Path.{_≡_, refl, sym, _∙_, ap}
 use native.Mathlib.Omega.{arith}
 use borrow.Author.Needs.{needs}
 use lib.ListN.{getD}
-use Rattle.planner.specs.Rows.{noRow, rowsOf}
+use Rattle.table.specs.Rows.{noRow, rowsOf, contents}
 use Rattle.planner.specs.Bound.{bound, bounds}
-use Rattle.planner.proofs.Shape.{places, rows-length}
+use Rattle.table.proofs.Laws.{places, rows-length, row-at}
 use Rattle.planner.proofs.Fill.{filled, fill-next, fill-end}
-use Rattle.planner.proofs.Limits.{row-at}
 use Rattle.planner.proofs.Worked.{bound-ready, bound-worked}
 use Rattle.planner.proofs.acceptance.row_bounds.Statement.{statement}
 use Rattle.planner.proofs.acceptance.row_bounds.Tie as tie
 
 abbrev Inv-loop : tie.InvT-loop
-Inv-loop a b t n out₀ i₀ out i = (n ≡ t .count) × (i ≤ t .count) × (t .count ≤ 32) × (out ≡ filled (bound t) (rowsOf t) i)
+Inv-loop a b t n out₀ i₀ out i = (n ≡ t .count) × (i ≤ t .count) × (t .count ≤ 32) × (out ≡ filled (bound (contents t)) (rowsOf t) i)
 
 abbrev μ-loop : tie.MeasureT-loop
 μ-loop a b t n out₀ i₀ out i = n - i
 
 loop-holds : tie.Need-loop-holds Inv-loop μ-loop
-loop-holds c = (refl, omega arith, c .pre .few, refl)
+loop-holds c = (refl, omega arith, c .pre .0, refl)
 
 mul-row : tie.Need-mul-row Inv-loop μ-loop
 mul-row c = omega arith
@@ -38,7 +37,7 @@ row-bound-requires : tie.Need-row-bound-requires Inv-loop μ-loop
 row-bound-requires c κs =
     let s = c .before .before .before .before .before in
     let t = s .args .t1 in
-    bound-ready t (places t _ (s .good .0)) (s .pre .few) (c .before .before .before .before .loop .i) (c .before .before .before .loop-test .taken) (s .pre) (c .before .lane .ensures) (c .size .ensures .0)
+    bound-ready t (places t _ (s .good .0)) (s .pre .0) (c .before .before .before .before .loop .i) (c .before .before .before .loop-test .taken) (s .pre .1) (c .before .lane .ensures) (c .size .ensures .0)
 
 mul-out : tie.Need-mul-out Inv-loop μ-loop
 mul-out c = omega arith
@@ -59,16 +58,16 @@ loop-again c =
     let t = s .args .t1 in
     let long = places t _ (s .good .0) in
     let in-use : l .i < t .count = c .before .before .before .before .loop-test .taken in
-    let v : c .row-bound .result ≡ bound t (getD (rowsOf t) (l .i) noRow) =
-    c .row-bound .ensures ∙ bound-worked t long (s .pre .few) (l .i) in-use (s .pre) (c .before .before .lane .ensures) (c .before .size .ensures .0) ∙ ap (bound t) (sym (row-at t long (s .pre .few) (l .i) in-use)) in
-    (refl, omega arith, s .pre .few, rw (l .inv .3) (fill-next (bound t) (rowsOf t) (l .i) noRow (rw (rows-length t long (s .pre .few)) in-use) (omega arith) v))
+    let v : c .row-bound .result ≡ bound (contents t) (getD (rowsOf t) (l .i) noRow) =
+    c .row-bound .ensures ∙ bound-worked t long (s .pre .0) (l .i) in-use (s .pre .1) (c .before .before .lane .ensures) (c .before .size .ensures .0) ∙ ap (bound (contents t)) (sym (row-at t long (s .pre .0) (l .i) in-use)) in
+    (refl, omega arith, s .pre .0, rw (l .inv .3) (fill-next (bound (contents t)) (rowsOf t) (l .i) noRow (rw (rows-length t) in-use) (omega arith) v))
 
 returns : tie.Need-returns Inv-loop μ-loop
 unfolding bounds
 returns c =
     let s = c .before .before in
     let t = s .args .t1 in
-    c .before .loop .inv .3 ∙ fill-end (bound t) (rowsOf t) (c .before .loop .i) (rw (rows-length t (places t _ (s .good .0)) (s .pre .few)) (omega arith))
+    c .before .loop .inv .3 ∙ fill-end (bound (contents t)) (rowsOf t) (c .before .loop .i) (rw (rows-length t) (omega arith))
 
 pub row-bounds-spec : {M : Type 1} → statement M
 row-bounds-spec =

@@ -2,7 +2,7 @@ use Prim.Native.Nat.{_≤_, _-_}
 use mathlib.Core.Path.{_≡_, refl}
 use native.Mathlib.Omega.{arith}
 use Rattle.planner.specs.Steps.{Small}
-use Rattle.planner.proofs.Shape.{places}
+use Rattle.table.proofs.Laws.{places}
 use Rattle.planner.proofs.Left.{Remaining, at-start, after-turn, at-end}
 use Rattle.planner.proofs.sums.figures.Statement.{statement}
 use Rattle.planner.proofs.sums.figures.Tie as tie

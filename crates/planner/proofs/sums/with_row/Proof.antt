@@ -4,11 +4,11 @@ use mathlib.Core.Path.{_≡_, refl, sym, _∙_}
 use borrow.Author.Tests.{not-true, not-false}
 use native.Mathlib.Nat.{add-zero, max-zero}
 use native.Mathlib.Omega.{arith}
-use Rattle.planner.specs.declared.Class.{Class}
-use Rattle.planner.specs.declared.Row.{Row}
+use Rattle.table.specs.declared.Class.{Class}
+use Rattle.table.specs.declared.Row.{Row}
 use Rattle.planner.specs.declared.Figures.{Figures}
-use Rattle.planner.specs.Rows.{sameClass}
-use Rattle.planner.specs.Wire.{sizeOf, shareOf}
+use Rattle.table.specs.Rows.{sameClass}
+use Rattle.table.specs.Wire.{sizeOf, shareOf}
 use Rattle.planner.specs.Steps.{joined}
 use borrow.Author.Needs.{needs}
 use Rattle.planner.proofs.sums.with_row.Statement.{statement}

@@ -19,7 +19,7 @@ returns : tie.Need-returns
 returns c = rw (c .before .before .a .given .1, c .row .ensures)
 
 returns-2 : tie.Need-returns-2
-returns-2 c = rw (c .before .before .a2 .given .1, c .number .ensures)
+returns-2 c = rw (c .before .before .a2 .given .1, c .number .ensures .0)
 
 pub advanced-spec : {M : Type 1} → statement M
 advanced-spec =

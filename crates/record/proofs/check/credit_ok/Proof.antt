@@ -4,6 +4,7 @@ use mathlib.Core.Path.{_≡_}
 use lib.IntN.{ℤ}
 use mir.Val.{Fits, SFits, toZ, ofZ}
 use mir.Facts.{toZ-ofZ}
+use Rattle.table.specs.Limits.{D, mostSlope, mostSize}
 use Rattle.machine.specs.Record.{between}
 use Prim.Native.Nat.{ℕ, _-_, _*_, _≤_, _<_, _^_}
 use native.Mathlib.Nat.{mul-le-mul}
@@ -15,14 +16,14 @@ use Rattle.record.proofs.check.credit_ok.Statement.{statement}
 use Rattle.record.proofs.check.credit_ok.Tie as tie
 
 module _ (l : Lane) where
-  low-end : l .largest ≤ 1542 → (1000000 - l .idle) * l .largest < 2 ^ 62
+  low-end : l .largest ≤ mostSize → (D - l .idle) * l .largest < 2 ^ 62
   low-end h =
-      let send : 1000000 - l .idle ≤ 1000000 = omega arith in
-      let most : (1000000 - l .idle) * l .largest ≤ 1542000000 = mul-le-mul send h in
+      let send : D - l .idle ≤ D = omega arith in
+      let most : (D - l .idle) * l .largest ≤ D * mostSize = mul-le-mul send h in
       omega arith
 
-  high-end : l .idle ≤ 750000 → l .blocking ≤ 7710 → l .idle * l .blocking < 2 ^ 62
-  high-end i h = let most : l .idle * l .blocking ≤ 5782500000 = mul-le-mul i h in omega arith
+  high-end : l .idle ≤ mostSlope → l .blocking ≤ 5 * mostSize → l .idle * l .blocking < 2 ^ 62
+  high-end i h = let most : l .idle * l .blocking ≤ mostSlope * (5 * mostSize) = mul-le-mul i h in omega arith
 
 fits : {n : ℕ} → n < 2 ^ 62 → Fits w64 n
 fits h = record { fits = omega arith }

@@ -6,7 +6,8 @@ use native.Mathlib.Omega.{arith}
 use lib.ListN.{take, drop}
 use Rattle.machine.specs.State.{instantOf}
 use Rattle.machine.specs.Record.{noneAfter}
-use Rattle.record.proofs.Walk.{last-places, late-here, past-here, past-all}
+use Rattle.machine.proofs.Places.{last-places}
+use Rattle.record.proofs.Walk.{late-here, past-here, past-all}
 use Rattle.record.proofs.check.instants_ok.Statement.{statement}
 use Rattle.record.proofs.check.instants_ok.Tie as tie
 

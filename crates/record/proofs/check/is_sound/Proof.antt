@@ -2,12 +2,13 @@
 use Prim.Native.Nat.{ℕ}
 use mathlib.Core.Path.{_≡_, refl, sym, _∙_, ap}
 use native.Mathlib.Omega.{arith}
-use Rattle.planner.specs.declared.Table.{Table}
-use Rattle.planner.specs.declared.Verdict.the-variants.{Accepted}
-use Rattle.planner.specs.declared.Class.the-variants.{A, B}
+use Rattle.table.specs.Rows.{Contents, contents}
+use Rattle.table.specs.declared.Verdict.the-variants.{Accepted}
+use Rattle.table.specs.declared.Class.the-variants.{A, B}
 use Rattle.planner.specs.declared.Plan.{Plan}
 use Rattle.planner.specs.Bound.{bounds}
-use Rattle.planner.specs.Opening.{accepted, opening, outcomeOf}
+use Rattle.table.specs.Checks.{accepted, outcomeOf}
+use Rattle.planner.specs.Opening.{opening}
 use Rattle.planner.specs.Plan.{laneOf, Planned}
 use Rattle.machine.specs.State.{view}
 use Rattle.record.proofs.Parts.{broken}
@@ -16,7 +17,7 @@ use borrow.Author.Needs.{needs}
 use Rattle.record.proofs.check.is_sound.Statement.{statement}
 use Rattle.record.proofs.check.is_sound.Tie as tie
 
-module _ (t : Table) (r : Plan) (e : Planned t r) (a : r .verdict ≡ Accepted) where
+module _ (t : Contents) (r : Plan) (e : Planned t r) (a : r .verdict ≡ Accepted) where
   open-accepts : opening t ≡ accepted
   open-accepts = sym (e .verdict) ∙ ap outcomeOf a
 
@@ -46,7 +47,7 @@ enum-told-2 c = search needs
 
 parts-ok-requires : tie.Need-parts-ok-requires
 parts-ok-requires c κs =
-    let t = c .before .before .before .before .before .before .before .args .p .table in
+    let t = contents (c .before .before .before .before .before .before .before .args .p .table) in
     let q = c .before .before .before .before .before .plan in
     let a = c .before .before .before .enum-told2 .given .1 in
     (open-accepts t (q .result) (q .ensures) a, (lane-a t (q .result) (q .ensures) a, (lane-b t (q .result) (q .ensures) a, limits t (q .result) (q .ensures) a)))

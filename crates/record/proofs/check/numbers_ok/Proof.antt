@@ -7,24 +7,26 @@ use mir.Syntax.{w64}
 use mir.Val.{SFits, toZ, ofZ}
 use mir.Facts.{toZ-ofZ}
 use borrow.Author.Tests.{le-leb, lt-leb}
-use Rattle.planner.specs.declared.Class.{Class}
-use Rattle.planner.specs.declared.Class.the-variants.{A, B}
+use Rattle.table.specs.declared.Class.{Class}
+use Rattle.table.specs.declared.Class.the-variants.{A, B}
 use Rattle.planner.specs.declared.Lane.{Lane}
-use Rattle.planner.specs.declared.Table.{Table}
-use Rattle.planner.specs.Wire.{D}
-use Rattle.planner.specs.Opening.{accepted, opening}
+use Rattle.table.specs.Rows.{Contents, contents}
+use Rattle.table.specs.Limits.{D, mostSlope, mostSize}
+use Rattle.table.specs.Checks.{accepted}
+use Rattle.planner.specs.Opening.{opening}
 use Rattle.planner.specs.Plan.{laneOf}
 use Rattle.planner.proofs.Laws as law
 use Rattle.machine.specs.declared.Port.{Port}
+use Rattle.machine.specs.Limits.{lastClock}
 use Rattle.machine.specs.State.{credit, view}
 use Rattle.machine.specs.Record.{between, clockSound, creditSound}
 use Rattle.record.specs.Steps.{numbersTest}
-use Rattle.record.proofs.Walk.{fails, holds}
+use Rattle.table.proofs.Laws.{fails, holds}
 use Rattle.record.proofs.check.numbers_ok.Statement.{statement}
 use Rattle.record.proofs.check.numbers_ok.Tie as tie
 
 -- the figures of a class are not large
-small : (k : Class) (t : Table) {l : Lane} → opening t ≡ accepted → l ≡ laneOf k t → (l .idle ≤ 750000) × ((l .largest ≤ 1542) × (l .blocking ≤ 7710))
+small : (k : Class) (t : Contents) {l : Lane} → opening t ≡ accepted → l ≡ laneOf k t → (l .idle ≤ mostSlope) × ((l .largest ≤ mostSize) × (l .blocking ≤ 5 * mostSize))
 small k t o e =
     let ok = law.accepted-if t o in
     rw e (law.idle-most t ok k, (law.largest-most t ok k, law.blocking-most t ok k))
@@ -40,24 +42,24 @@ module _ (p : Port) where
   in-view A = refl
   in-view B = refl
 
-  is-credit : (k : Class) {l : Lane} {r : Bool} → SFits w64 (creditOf k p) → l ≡ laneOf k (p .table) → r ≡ between ((D - l .idle) * l .largest) (l .idle * l .blocking) (toZ w64 (ofZ w64 (creditOf k p))) → r ≡ creditSound k (view p)
+  is-credit : (k : Class) {l : Lane} {r : Bool} → SFits w64 (creditOf k p) → l ≡ laneOf k (contents (p .table)) → r ≡ between ((D - l .idle) * l .largest) (l .idle * l .blocking) (toZ w64 (ofZ w64 (creditOf k p))) → r ≡ creditSound k (view p)
   unfolding view creditSound
   is-credit k {l} {r} f e q =
       let plain : r ≡ between ((D - l .idle) * l .largest) (l .idle * l .blocking) (creditOf k p) = rw (toZ-ofZ f) at q in
-      let known : r ≡ between ((D - laneOf k (p .table) .idle) * laneOf k (p .table) .largest) (laneOf k (p .table) .idle * laneOf k (p .table) .blocking) (creditOf k p) = rw e at plain in
+      let known : r ≡ between ((D - laneOf k (contents (p .table)) .idle) * laneOf k (contents (p .table)) .largest) (laneOf k (contents (p .table)) .idle * laneOf k (contents (p .table)) .blocking) (creditOf k p) = rw e at plain in
       rw (in-view k) known
 
-  past-last : 1099511627775 < p .clock → false ≡ numbersTest (view p)
+  past-last : lastClock < p .clock → false ≡ numbersTest (view p)
   unfolding view numbersTest clockSound
-  past-last h = rw (lt-leb (p .clock) 1099511627775 h) refl
+  past-last h = rw (lt-leb (p .clock) lastClock h) refl
 
-  a-fails : p .clock ≤ 1099511627775 → creditSound A (view p) ≡ false → false ≡ numbersTest (view p)
+  a-fails : p .clock ≤ lastClock → creditSound A (view p) ≡ false → false ≡ numbersTest (view p)
   unfolding view numbersTest clockSound
-  a-fails h e = rw (le-leb (p .clock) 1099511627775 h, e) refl
+  a-fails h e = rw (le-leb (p .clock) lastClock h, e) refl
 
-  by-b : p .clock ≤ 1099511627775 → creditSound A (view p) ≡ true → {r : Bool} → r ≡ creditSound B (view p) → r ≡ numbersTest (view p)
+  by-b : p .clock ≤ lastClock → creditSound A (view p) ≡ true → {r : Bool} → r ≡ creditSound B (view p) → r ≡ numbersTest (view p)
   unfolding view numbersTest clockSound
-  by-b h e q = rw (le-leb (p .clock) 1099511627775 h, e) q
+  by-b h e q = rw (le-leb (p .clock) lastClock h, e) q
 
 returns : tie.Need-returns
 returns c = past-last (c .before .before .args .p) (c .if1 .taken)
@@ -65,7 +67,7 @@ returns c = past-last (c .before .before .args .p) (c .if1 .taken)
 credit-ok-requires : tie.Need-credit-ok-requires
 credit-ok-requires c κs =
     let s = c .before .before .before in
-    small A (s .args .p .table) (s .pre .0) (s .pre .1 .0)
+    small A (contents (s .args .p .table)) (s .pre .0) (s .pre .1 .0)
 
 returns-2 : tie.Need-returns-2
 returns-2 c =
@@ -76,7 +78,7 @@ returns-2 c =
 credit-ok-requires-2 : tie.Need-credit-ok-requires-2
 credit-ok-requires-2 c κs =
     let s = c .before .before .before .before .before .before in
-    small B (s .args .p .table) (s .pre .0) (s .pre .1 .1)
+    small B (contents (s .args .p .table)) (s .pre .0) (s .pre .1 .1)
 
 returns-3 : tie.Need-returns-3
 returns-3 c =

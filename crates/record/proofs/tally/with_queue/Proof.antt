@@ -9,8 +9,8 @@ use mir.Syntax.{w8}
 use borrow.Kind.Array.{good-length, eInt}
 use borrow.Author.Needs.{needs}
 use Rattle.machine.specs.Record.{count}
-use Rattle.record.specs.Steps.{Counts, Counted, zeroFrame}
-use Rattle.record.proofs.Walk.{queue-places}
+use Rattle.machine.proofs.Places.{queue-places, zeroFrame}
+use Rattle.record.specs.Steps.{Counts, Counted}
 use Rattle.record.proofs.Counting.{Counting, below, counted, not-counted, one-more, all-counted}
 use Rattle.record.proofs.tally.with_queue.Statement.{statement}
 use Rattle.record.proofs.tally.with_queue.Tie as tie

@@ -4,8 +4,8 @@ use mathlib.Core.List.{List}
 use mathlib.Core.Path.{_≡_, refl, _∙_}
 use native.Mathlib.Omega.{arith}
 use lib.ListN.{take, drop}
-use Rattle.replay.specs.declared.Asked.{Asked}
-use Rattle.replay.specs.Calls.{readCall}
+use Rattle.callbytes.specs.declared.Asked.{Asked}
+use Rattle.callbytes.specs.Calls.{readCall}
 use Rattle.replay.specs.List.{askedAt}
 use borrow.Author.Needs.{needs}
 use Rattle.replay.proofs.list.asked_at.Statement.{statement}

@@ -1,10 +1,10 @@
 -- `replay::list::first_unreadable` meets its contract: at i all calls before can be read.
 use Prim.Native.Nat.{_-_, _≤_}
-use mathlib.Core.Path.{_≡_, refl, sym, _∙_, ap}
+use mathlib.Core.Path.{_≡_, sym, _∙_, ap}
 use native.Mathlib.Omega.{arith}
 use denote.Ref.{now}
 use borrow.Author.Tests.{not-true, not-false}
-use Rattle.replay.specs.Calls.{isReadable}
+use Rattle.callbytes.specs.Calls.{isReadable}
 use Rattle.replay.specs.List.{askedAt, lowest}
 use Rattle.replay.proofs.Listing.{none-yet, passes-on, first-at}
 use borrow.Author.Needs.{needs}

@@ -1,12 +1,13 @@
 -- `replay::list::steps` meets its contract: at i the first i calls have made a run, and their answers stand in the buffer.
-use Prim.Native.Nat.{_-_, _*_, _/_, _≤_}
+use Prim.Native.Nat.{_-_, _*_, _≤_}
 use mathlib.Core.List.{[]}
-use mathlib.Core.Path.{_≡_, refl, sym, _∙_, ap}
+use mathlib.Core.Path.{_≡_, refl, _∙_}
 use native.Mathlib.Omega.{arith}
 use denote.Ref.{now}
 use lib.ListN.{length}
-use Rattle.planner.specs.declared.Table.{Table}
+use Rattle.table.specs.declared.Table.{Table}
 use Rattle.machine.specs.Run.{Run}
+use Rattle.callbytes.specs.Calls.{answerSize}
 use Rattle.replay.specs.List.{callAt, countOf}
 use Rattle.replay.proofs.Listing.{room, same-size, Sofar, begins, goes-on, all-done}
 use borrow.Author.Needs.{needs}
@@ -38,10 +39,7 @@ part-step-end : tie.Need-part-step-end Inv-loop μ-loop
 part-step-end c = omega arith
 
 step-requires : tie.Need-step-requires Inv-loop μ-loop
-step-requires c κs =
-    let l = c .before .before .before .loop in
-    let s = c .before .before .before .before .before .before in
-    room (l .out) (l .i) (countOf (now (s .args .calls))) (omega arith) (rw (l .inv .2) (s .pre))
+step-requires c κs = search needs
 
 add-i : tie.Need-add-i Inv-loop μ-loop
 add-i c = omega arith
@@ -55,11 +53,12 @@ loop-again c =
     let s = c .before .before .before .before .before .before .before .before .before .before in
     let calls = now (s .args .calls) in
     let asked = c .before .before .before .before .before .asked-at .ensures in
-    let step = rw asked at (c .before .before .before .step .ensures) in (
+    let step = rw asked at (c .before .before .before .step .ensures) in
+    let fits = room (l .out) (l .i) (countOf calls) (omega arith) (rw (l .inv .2) (s .pre)) in (
       refl,
       omega arith,
-      same-size (l .out) (40 * l .i) (l .p) (callAt calls (l .i)) (c .before .before .before .step .result) (c .before .before .before .step .last .1 .1 .0) (room (l .out) (l .i) (countOf calls) (omega arith) (rw (l .inv .2) (s .pre))) step ∙ l .inv .2,
-      λ t r. goes-on (s .args .port) calls (now (s .args .out)) (l .i) (l .p) (l .out) t (c .before .before .before .step .result) (c .before .before .before .step .last .1 .1 .0) (l .inv .3 t r) step,
+      same-size (l .out) (answerSize * l .i) (l .p) (callAt calls (l .i)) (c .before .before .before .step .result) (c .before .before .before .step .last .1 .1 .0) fits step ∙ l .inv .2,
+      λ t r. goes-on (s .args .port) calls (now (s .args .out)) (l .i) (l .p) (l .out) t (c .before .before .before .step .result) (c .before .before .before .step .last .1 .1 .0) fits (l .inv .3 t r) step,
     )
 
 same-length : tie.Need-same-length Inv-loop μ-loop

@@ -1,0 +1,5 @@
+-- Laws that belong to no one function.
+mod Shift
+mod Waiting
+mod Begins
+mod Judged

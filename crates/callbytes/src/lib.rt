@@ -1,0 +1,11 @@
+// Calls and answers as bytes.
+pub mod answers;
+pub mod calls;
+
+// What bytes ask for: an offer to a row (row, payload), an offer of best effort, an advance; or nothing that can be read.
+pub enum Asked {
+    Offer(u64, u64),
+    OfferBest(u64),
+    Advance(u64),
+    Unreadable,
+}

@@ -1,0 +1,2 @@
+-- Laws that belong to no one function. `Laws` is what the crates above may cite.
+pub mod Laws

@@ -1,0 +1,25 @@
+-- What the calls on byte slices return, and what they leave in a lent buffer.
+use Prim.Native.Nat.{ℕ, _+_, _*_, min}
+use mathlib.Core.List.{List, [], _∷_, _++_}
+use lib.ListN.{length, drop}
+use Rattle.table.specs.Rows.{contents}
+use Rattle.table.specs.Checks.{Outcome, accepted, refused, first}
+use Rattle.planner.specs.Opening.{opening}
+use Rattle.tablefile.specs.Reading.{readFile}
+
+-- An outcome as one number: 0, or the refusal's number and 256 times its place, where a place above the largest counts as that.
+abbrev pub mostPlace : ℕ
+mostPlace = 4294967295
+
+abbrev pub codeOf : Outcome → ℕ
+codeOf accepted = 0
+codeOf (refused number place) = number + 256 * min place mostPlace
+
+-- Bytes at the front of a buffer, and its own bytes behind them; at a refusal every byte as it was.
+abbrev pub over : Outcome → List ℕ → List ℕ → List ℕ
+over accepted bytes buffer = bytes ++ drop (length bytes) buffer
+over (refused n p) bytes buffer = buffer
+
+-- A table file that is opened: the file's refusals, then opening's.
+unfoldable pub fileCheck : List ℕ → Outcome
+fileCheck file = first (readFile file .outcome ∷ opening (contents (readFile file .table)) ∷ [])

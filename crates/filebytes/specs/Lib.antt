@@ -1,0 +1,2 @@
+-- What the calls on table files promise.
+pub mod Files

@@ -1,0 +1,2 @@
+// The tests of a record's frames.
+pub mod tests;

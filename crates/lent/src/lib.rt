@@ -1,3 +1,0 @@
-// Calls that take a table's rows as a lent list, and a port record where it lies.
-pub mod record;
-pub mod rows;

@@ -1,0 +1,2 @@
+-- What the call with a lent record means.
+pub mod Lent

@@ -1,0 +1,30 @@
+-- The limits of a port, each under one name.
+use Prim.Native.Nat.{ℕ}
+use Rattle.table.specs.Rows.{Contents}
+
+-- The clock's last value.
+abbrev pub lastClock : ℕ
+lastClock = 1099511627775
+
+-- The most byte-times of an advance.
+abbrev pub mostSteps : ℕ
+mostSteps = 65535
+
+-- The best-effort mark of a frame.
+abbrev pub bestMark : ℕ
+bestMark = 32
+
+-- The mark of no frame.
+abbrev pub noMark : ℕ
+noMark = 33
+
+-- The places of a class queue, and of the best-effort queue: at most 16 wait.
+abbrev pub classPlaces : ℕ
+classPlaces = 32
+
+abbrev pub bestPlaces : ℕ
+bestPlaces = 16
+
+-- How many frames a row may have in the port.
+unfoldable pub mostOf : Contents → ℕ → ℕ
+mostOf t k = 1

@@ -1,0 +1,2 @@
+// Ports with zeros in the places that belong to no part.
+pub mod plain;

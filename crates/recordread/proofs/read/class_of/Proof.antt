@@ -1,0 +1,14 @@
+-- `recordread::read::class_of` meets its contract.
+use mathlib.Core.Path.{refl}
+use borrow.Author.Tests.{eq-eqb, ne-eqb}
+use Rattle.recordread.proofs.read.class_of.Statement.{statement}
+use Rattle.recordread.proofs.read.class_of.Tie as tie
+
+returns : tie.Need-returns
+returns c = rw (eq-eqb _ _ (c .if1 .taken)) refl
+
+returns-2 : tie.Need-returns-2
+returns-2 c = rw (ne-eqb _ _ (c .if1 .left)) refl
+
+pub class-of-spec : {M : Type 1} → statement M
+class-of-spec = tie.close (tie.spec returns returns-2)

@@ -1,0 +1,64 @@
+-- `recordread::read::port_of` meets its contract.
+use mathlib.Core.Path.{_∙_}
+use Rattle.recordread.proofs.Named.{port-named}
+use Rattle.recordbytes.proofs.Laws.{plain}
+use borrow.Author.Needs.{needs}
+use Rattle.recordread.proofs.read.port_of.Statement.{statement}
+use Rattle.recordread.proofs.read.port_of.Tie as tie
+
+table-at-requires : tie.Need-table-at-requires
+table-at-requires c κs = search needs
+
+queue-at-requires : tie.Need-queue-at-requires
+queue-at-requires c κs = search needs
+
+queue-at-requires-2 : tie.Need-queue-at-requires-2
+queue-at-requires-2 c κs = search needs
+
+best-at-requires : tie.Need-best-at-requires
+best-at-requires c κs = search needs
+
+lasts-at-requires : tie.Need-lasts-at-requires
+lasts-at-requires c κs = search needs
+
+wire-at-requires : tie.Need-wire-at-requires
+wire-at-requires c κs = search needs
+
+word-requires : tie.Need-word-requires
+word-requires c κs = search needs
+
+word-requires-2 : tie.Need-word-requires-2
+word-requires-2 c κs = search needs
+
+signed-of-requires : tie.Need-signed-of-requires
+signed-of-requires c κs = search needs
+
+word-requires-3 : tie.Need-word-requires-3
+word-requires-3 c κs = search needs
+
+signed-of-requires-2 : tie.Need-signed-of-requires-2
+signed-of-requires-2 c κs = search needs
+
+returns : tie.Need-returns
+returns c =
+    port-named _ (c .before .before .before .before .before .before .before .before .before .before .table-at .ensures) (c .before .before .before .before .before .before .before .before .before .queue-at .ensures) (c .before .before .before .before .before .before .before .before .queue-at2 .ensures) (c .before .before .before .before .before .before .before .best-at .ensures)
+    (c .before .before .before .before .before .before .lasts-at .ensures) (c .before .before .before .before .before .wire-at .ensures) (c .before .before .before .before .word .ensures)
+    (c .before .before .before .word2 .ensures) (plain (c .before .before .signed-of .ok) ∙ c .before .before .signed-of .ensures)
+    (c .before .word3 .ensures) (plain (c .signed-of2 .ok) ∙ c .signed-of2 .ensures)
+
+pub port-of-spec : {M : Type 1} → statement M
+port-of-spec =
+    tie.close
+    (tie.spec
+    table-at-requires
+    queue-at-requires
+    queue-at-requires-2
+    best-at-requires
+    lasts-at-requires
+    wire-at-requires
+    word-requires
+    word-requires-2
+    signed-of-requires
+    word-requires-3
+    signed-of-requires-2
+    returns)

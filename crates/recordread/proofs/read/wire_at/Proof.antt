@@ -1,0 +1,42 @@
+-- `recordread::read::wire_at` meets its contract.
+use Rattle.recordread.proofs.Named.{free-named, sending-named}
+use borrow.Author.Needs.{needs}
+use Rattle.recordread.proofs.read.wire_at.Statement.{statement}
+use Rattle.recordread.proofs.read.wire_at.Tie as tie
+
+word-requires : tie.Need-word-requires
+word-requires c κs = search needs
+
+returns : tie.Need-returns
+returns c = free-named _ _ (c .before .word .ensures) (c .if1 .taken)
+
+add-frame-at : tie.Need-add-frame-at
+add-frame-at c = search needs
+
+frame-at-requires : tie.Need-frame-at-requires
+frame-at-requires c κs = search needs
+
+add-word : tie.Need-add-word
+add-word c = search needs
+
+word-requires-2 : tie.Need-word-requires-2
+word-requires-2 c κs = search needs
+
+u32-of-requires : tie.Need-u32-of-requires
+u32-of-requires c κs = search needs
+
+returns-2 : tie.Need-returns-2
+returns-2 c = sending-named _ _ (c .before .before .before .before .word .ensures) (c .before .before .before .if1 .left) (c .before .before .frame-at .ensures) (c .before .word2 .ensures) (c .u32-of .ensures)
+
+pub wire-at-spec : {M : Type 1} → statement M
+wire-at-spec =
+    tie.close
+    (tie.spec
+    word-requires
+    returns
+    add-frame-at
+    frame-at-requires
+    add-word
+    word-requires-2
+    u32-of-requires
+    returns-2)

@@ -1,0 +1,2 @@
+// Port records read from bytes.
+pub mod read;

@@ -1,0 +1,3 @@
+-- Laws that belong to no one function. `Laws` is what the crates above may cite.
+mod Storage
+pub mod Laws

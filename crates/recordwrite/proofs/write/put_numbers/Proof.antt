@@ -1,0 +1,51 @@
+-- `recordwrite::write::put_numbers` meets its contract.
+use native.Mathlib.Omega.{arith}
+use Rattle.recordbytes.proofs.Laws.{word-plain}
+use Rattle.recordwrite.proofs.Storage.{numbers-put}
+use borrow.Author.Needs.{needs}
+use Rattle.recordwrite.proofs.write.put_numbers.Statement.{statement}
+use Rattle.recordwrite.proofs.write.put_numbers.Tie as tie
+
+put-word-requires : tie.Need-put-word-requires
+put-word-requires c κs = search needs
+
+add-put-word : tie.Need-add-put-word
+add-put-word c = search needs
+
+signed-word-requires : tie.Need-signed-word-requires
+signed-word-requires c κs = search needs
+
+put-word-requires-2 : tie.Need-put-word-requires-2
+put-word-requires-2 c κs = search needs
+
+add-put-word-2 : tie.Need-add-put-word-2
+add-put-word-2 c = search needs
+
+signed-word-requires-2 : tie.Need-signed-word-requires-2
+signed-word-requires-2 c κs = search needs
+
+put-word-requires-3 : tie.Need-put-word-requires-3
+put-word-requires-3 c κs = omega (arith, c .before .before .before .before .out2 .given, c .before .before .before .before .before .before .before .before .before .before .out .given, c .before .before .before .before .before .before .before .before .before .before .before .before .before .before .pre .1)
+
+same-length : tie.Need-same-length
+same-length c = search needs
+
+returns : tie.Need-returns
+returns c =
+    let p = c .before .before .before .before .before .before .before .before .before .before .before .before .before .before .before .before .before .args .p in
+    numbers-put _ _ p (word-plain (p .credita) (c .before .before .before .before .before .before .before .before .before .before .struct-told .given .1 .1 .0 .1) (c .before .before .before .before .before .before .before .before .before .signed-word .ensures)) (word-plain (p .creditb) (c .before .before .before .before .struct-told2 .given .1 .1 .1 .0 .1) (c .before .before .before .signed-word2 .ensures))
+    (c .before .before .before .before .before .before .before .before .before .before .before .before .before .before .put-word .ensures) (c .before .before .before .before .before .before .before .before .put-word2 .ensures) (c .before .before .put-word3 .ensures)
+
+pub put-numbers-spec : {M : Type 1} → statement M
+put-numbers-spec =
+    tie.close
+    (tie.spec
+    put-word-requires
+    add-put-word
+    signed-word-requires
+    put-word-requires-2
+    add-put-word-2
+    signed-word-requires-2
+    put-word-requires-3
+    same-length
+    returns)

@@ -1,0 +1,56 @@
+-- `recordwrite::write::write_record` meets its contract.
+use Rattle.machine.proofs.Places.{port-places}
+use Rattle.recordwrite.proofs.Storage.{no-room, record-put}
+use native.Mathlib.Omega.{arith}
+use denote.Ref.{now}
+use borrow.Author.Needs.{needs}
+use Rattle.recordwrite.proofs.write.write_record.Statement.{statement}
+use Rattle.recordwrite.proofs.write.write_record.Tie as tie
+
+returns : tie.Need-returns
+returns c = let s = c .before .before .args in no-room (now (s .out)) (s .p) (omega arith)
+
+put-table-requires : tie.Need-put-table-requires
+put-table-requires c κs = search needs
+
+put-numbers-requires : tie.Need-put-numbers-requires
+put-numbers-requires c κs = search needs
+
+put-queue-requires : tie.Need-put-queue-requires
+put-queue-requires c κs = search needs
+
+put-queue-requires-2 : tie.Need-put-queue-requires-2
+put-queue-requires-2 c κs = search needs
+
+put-best-requires : tie.Need-put-best-requires
+put-best-requires c κs = search needs
+
+put-lasts-requires : tie.Need-put-lasts-requires
+put-lasts-requires c κs = search needs
+
+put-wire-requires : tie.Need-put-wire-requires
+put-wire-requires c κs = search needs
+
+same-length : tie.Need-same-length
+same-length c = search needs
+
+returns-2 : tie.Need-returns-2
+returns-2 c =
+    let e = c .before .before .before .before .before .before .before .before .before .before .before .before .before .before .before .before .before .before .before .before .before .before .before .before .before .before .before .before .before .before .before .before .before in
+    let s = e .before .before in
+    record-put _ (s .args .p) (port-places (s .args .p) _ (s .good .1 .0)) (e .if1 .left) (c .before .before .before .before .before .before .before .before .before .before .before .before .before .before .before .before .before .before .before .before .before .before .before .before .before .before .before .before .before .before .put-table .ensures) (c .before .before .before .before .before .before .before .before .before .before .before .before .before .before .before .before .before .before .before .before .before .before .before .before .before .before .put-numbers .ensures) (c .before .before .before .before .before .before .before .before .before .before .before .before .before .before .before .before .before .before .before .before .before .put-queue .ensures) (c .before .before .before .before .before .before .before .before .before .before .before .before .before .before .before .before .put-queue2 .ensures) (c .before .before .before .before .before .before .before .before .before .before .before .put-best .ensures) (c .before .before .before .before .before .before .put-lasts .ensures) (c .before .before .put-wire .ensures)
+
+pub write-record-spec : {M : Type 1} → statement M
+write-record-spec =
+    tie.close
+    (tie.spec
+    returns
+    put-table-requires
+    put-numbers-requires
+    put-queue-requires
+    put-queue-requires-2
+    put-best-requires
+    put-lasts-requires
+    put-wire-requires
+    same-length
+    returns-2)

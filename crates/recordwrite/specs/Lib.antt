@@ -1,0 +1,2 @@
+-- What writing a record promises.
+pub mod Written

@@ -1,0 +1,2 @@
+// Port records written as bytes.
+pub mod write;

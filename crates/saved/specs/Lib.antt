@@ -1,0 +1,2 @@
+-- What the calls on a port that is kept as bytes promise.
+pub mod Saved

@@ -1,0 +1,2 @@
+// A port kept as bytes between calls.
+pub mod saved;

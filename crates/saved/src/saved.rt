@@ -1,0 +1,58 @@
+// A port kept as bytes between calls.
+ghost use Rattle.saved.specs.Saved.{OpenedInto, Called};
+use callbytes::answers::ANSWER_SIZE;
+use callbytes::answers::put_answer;
+use callbytes::calls::is_readable;
+use callbytes::calls::read_call;
+use codes::code;
+use machine::NO_MARK;
+use plain::plain::plain;
+use recordbytes::RECORD_SIZE;
+use recordread::read::read_record;
+use recordwrite::write::write_record;
+use turns::opened::open_file;
+use turns::turn::step;
+
+// The fresh port of a table file as a record's bytes. At a refusal no byte is written.
+pub fn open(file: &[u8], out: &mut [u8]) -> u64
+    ensures { λ r. ⌜ OpenedInto (now (file .entry)) (now (out .entry)) (now (out .exit)) r ⌝ }
+{
+    if out.len() < RECORD_SIZE {
+        return code(103, 0);
+    }
+    let o = open_file(file);
+    let c = o.code;
+    if c != 0 {
+        return c;
+    }
+    let p = o.port;
+    write_record(out, plain(p));
+    c
+}
+
+// One call on a record's bytes. Bytes that are no record answer 18; a refused call leaves them as they were.
+pub fn call(saved: &mut [u8], call: &[u8], answer: &mut [u8]) -> u64
+    ensures { λ r. ⌜ Called (now (saved .entry)) (now (saved .exit)) (now (call .entry)) (now (answer .entry)) (now (answer .exit)) r ⌝ }
+{
+    let asked = read_call(call);
+    if !is_readable(asked) {
+        return code(102, 0);
+    }
+    if answer.len() < ANSWER_SIZE {
+        return code(103, 0);
+    }
+    let l = read_record(saved);
+    let readable = l.readable;
+    if !readable {
+        put_answer(answer, 18, 0, NO_MARK as u64, 0, 0);
+        return 0;
+    }
+    let p = l.port;
+    let s = step(p, asked, answer);
+    let refused = s.refused;
+    if !refused {
+        let q = s.port;
+        write_record(saved, plain(q));
+    }
+    0
+}

@@ -1,0 +1,6 @@
+-- Laws that belong to no one function. `Laws` is what the crates above may cite.
+mod Division
+mod Shape
+mod Search
+pub mod Laws
+pub mod Answers

@@ -1,0 +1,44 @@
+-- The limits of a table's values, each under one name.
+use Prim.Native.Nat.{ℕ}
+
+-- D: slopes and shares are in millionths of the port rate.
+abbrev pub D : ℕ
+D = 1000000
+
+-- 1 to 32 rows.
+abbrev pub mostRows : ℕ
+mostRows = 32
+
+-- The place of a header value where rows are places.
+abbrev pub headerPlace : ℕ
+headerPlace = 32
+
+-- I of A and of B, 0 to 750,000 each, and so is their sum.
+abbrev pub mostSlope : ℕ
+mostSlope = 750000
+
+-- Payloads of 0 to 1500 bytes.
+abbrev pub mostPayload : ℕ
+mostPayload = 1500
+
+-- Wire sizes of 84 to 1542 bytes.
+abbrev pub leastSize : ℕ
+leastSize = 84
+
+abbrev pub mostSize : ℕ
+mostSize = 1542
+
+-- Periods of 84 to 1,000,000,000 byte-times.
+abbrev pub leastPeriod : ℕ
+leastPeriod = 84
+
+abbrev pub mostPeriod : ℕ
+mostPeriod = 1000000000
+
+-- The wire size of the largest payload that 16 bits can state, in range or not.
+abbrev pub anySize : ℕ
+anySize = 65577
+
+-- The bytes of a frame that are left when it is reported ended: none, the report comes with its last byte.
+abbrev pub leftAtReport : ℕ
+leftAtReport = 0

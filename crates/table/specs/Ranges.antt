@@ -1,0 +1,53 @@
+-- Rules 3 and 5 of opening: the row count, and values in range.
+use Prim.Native.Nat.{_≤_}
+use mathlib.Core.Bool.{Bool, _&&_}
+use mathlib.Core.List.{List, [], _∷_}
+use lib.Dec.{leb}
+use lib.ListN.{length}
+use Rattle.table.specs.declared.Row.{Row}
+use Rattle.table.specs.declared.Header.{Header}
+use Rattle.table.specs.Limits.{mostRows, headerPlace, mostSlope, mostPayload, leastPeriod, mostPeriod}
+use Rattle.table.specs.Wire.{periodOf}
+use Rattle.table.specs.Rows.{Contents}
+use Rattle.table.specs.Checks.{Outcome, unless, unlessRow, first}
+
+-- Rule 3. The row count is 1 to 32.
+unfoldable pub countOk : List Row → Bool
+countOk rs = leb 1 (length rs) && leb (length rs) mostRows
+
+-- Rule 5, the header. Slopes are 0 to 750,000 each and the best-effort payload 0 to 1500.
+unfoldable pub headerOk : Header → Bool
+headerOk h = (leb (h .idlea) mostSlope && leb (h .idleb) mostSlope) && leb (h .payload) mostPayload
+
+-- Rule 5, a row. Its payload is 0 to 1500, its period 84 to 1,000,000,000 byte-times, its deadline 1 to the period.
+unfoldable pub rowOk : Row → Bool
+rowOk r = (leb (r .payload) mostPayload && (leb leastPeriod (periodOf r) && leb (periodOf r) mostPeriod)) && (leb 1 (r .deadline) && leb (r .deadline) (periodOf r))
+
+-- 3, row count not 1 to 32. 5, a value out of range, place its row, or 32 for a header value (header first).
+abbrev pub rangeChecks : Contents → List Outcome
+rangeChecks t = unless (countOk (t .rows)) 3 0 ∷ unless (headerOk (t .header)) 5 headerPlace ∷ unlessRow rowOk (t .rows) 5 ∷ []
+
+unfoldable pub ranged : Contents → Outcome
+ranged t = first (rangeChecks t)
+
+-- What holds of every row of a list.
+abbrev pub Every : (Row → Type 0) → List Row → Type 0
+Every P [] = Unit {0}
+Every P (r ∷ rs) = P r × Every P rs
+
+-- A row in range.
+pub record InRange (r : Row) : Type 0 where
+  pub payload : r .payload ≤ mostPayload
+  pub shortest : leastPeriod ≤ periodOf r
+  pub longest : periodOf r ≤ mostPeriod
+  pub positive : 1 ≤ r .deadline
+  pub deadline : r .deadline ≤ periodOf r
+
+-- A table in range.
+pub record Ranges (t : Contents) : Type 0 where
+  pub some : 1 ≤ length (t .rows)
+  pub most : length (t .rows) ≤ mostRows
+  pub idlea : t .header .idlea ≤ mostSlope
+  pub idleb : t .header .idleb ≤ mostSlope
+  pub best : t .header .payload ≤ mostPayload
+  pub rows : Every InRange (t .rows)

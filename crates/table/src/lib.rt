@@ -1,0 +1,53 @@
+// A port's table: its types, the wire sizes, periods and shares of its rows, and which values are in range.
+pub mod classes;
+pub mod numbers;
+pub mod quotient;
+pub mod ranges;
+pub mod wire;
+
+// The places of a table: the most rows that it has.
+pub const ROWS: usize = 32;
+
+// A shaped class.
+pub enum Class {
+    A,
+    B,
+}
+
+// A stream: its class, payload in bytes, period and deadline in byte-times.
+pub struct Row {
+    pub class: Class,
+    pub payload: u16,
+    pub period: u32,
+    pub deadline: u32,
+}
+
+// The idle slopes of A and B in millionths of the port rate, and the best-effort payload.
+pub struct Header {
+    pub idlea: u32,
+    pub idleb: u32,
+    pub payload: u16,
+}
+
+// A port's table: its header, how many of the places are rows, and the places.
+pub struct Table {
+    pub header: Header,
+    pub count: usize,
+    pub rows: [Row; ROWS],
+}
+
+// Why a table is refused. specs/Checks.antt gives each case its number and place.
+pub enum Refusal {
+    RowCount,
+    // The row, or 32 for a header value.
+    Value(usize),
+    Slopes,
+    Shares(Class),
+    Deadline(usize),
+}
+
+// The answer to a table: accepted, or refused and why.
+pub enum Verdict {
+    Accepted,
+    Refused(Refusal),
+}

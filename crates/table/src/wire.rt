@@ -1,0 +1,58 @@
+// Wire sizes, periods and shares.
+ghost use mathlib.Core.Path.{_≡_};
+ghost use Prim.Native.Nat.{_*_, _≤_};
+ghost use Rattle.table.specs.Limits.{D, anySize};
+ghost use Rattle.table.specs.Wire.{wireSize, sizeFor, sizeOf, periodOf, shareOf};
+use crate::Row;
+use crate::quotient::ceil_div;
+
+// Slopes and shares are in millionths of the port rate.
+pub const D: u64 = 1_000_000;
+
+// The smallest wire size.
+pub const LEAST_SIZE: u32 = 84;
+
+// The bytes on the wire of a frame with this payload.
+pub fn wire_size(payload: u16) -> u64
+    ensures { λ r. ⌜ r ≡ wireSize payload ⌝ }
+    ensures small { λ r. ⌜ r ≤ anySize ⌝ }
+{
+    if payload < 42 {
+        84
+    } else {
+        42 + payload as u64
+    }
+}
+
+// The bytes on the wire of a row's frame with this payload.
+pub fn size_for(_row: Row, payload: u16) -> u64
+    ensures { λ r. ⌜ r ≡ sizeFor «_row» payload ⌝ }
+    ensures small { λ r. ⌜ r ≤ anySize ⌝ }
+{
+    wire_size(payload)
+}
+
+// C, a row's wire size.
+pub fn size(row: Row) -> u64
+    ensures { λ r. ⌜ r ≡ sizeOf row ⌝ }
+    ensures small { λ r. ⌜ r ≤ anySize ⌝ }
+{
+    let payload = row.payload;
+    size_for(row, payload)
+}
+
+// P, a row's period.
+pub fn period(row: Row) -> u64
+    ensures { λ r. ⌜ r ≡ periodOf row ⌝ }
+    ensures small { λ r. ⌜ r ≤ 4294967295 ⌝ }
+{
+    row.period as u64
+}
+
+// A row's share, D × C / P rounded up. A row with period 0, which no table may have, has share 0.
+pub fn share(row: Row) -> u64
+    ensures { λ r. ⌜ r ≡ shareOf row ⌝ }
+    ensures small { λ r. ⌜ r ≤ D * anySize ⌝ }
+{
+    ceil_div(D * size(row), period(row))
+}

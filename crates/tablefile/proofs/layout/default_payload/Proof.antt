@@ -1,0 +1,12 @@
+-- `tablefile::layout::default_payload` meets its contract.
+use mathlib.Core.Path.{refl}
+use Rattle.tablefile.specs.Layout.{defaultOf}
+use Rattle.tablefile.proofs.layout.default_payload.Statement.{statement}
+use Rattle.tablefile.proofs.layout.default_payload.Tie as tie
+
+returns : tie.Need-returns
+unfolding defaultOf
+returns c = refl
+
+pub default-payload-spec : {M : Type 1} → statement M
+default-payload-spec = tie.close (tie.spec returns)

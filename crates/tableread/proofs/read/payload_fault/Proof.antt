@@ -1,0 +1,41 @@
+-- `tableread::read::payload_fault` meets its contract.
+use mathlib.Core.Path.{ap, refl}
+use lib.Dec.{eqb}
+use borrow.Author.Needs.{needs}
+use Rattle.tablefile.specs.Layout.{Payload}
+use Rattle.tableread.proofs.Faults.{field-told}
+use Rattle.tableread.proofs.read.payload_fault.Statement.{statement}
+use Rattle.tableread.proofs.read.payload_fault.Tie as tie
+
+add-inside : tie.Need-add-inside
+add-inside c = search needs
+
+default-payload-requires : tie.Need-default-payload-requires
+default-payload-requires c κs = search needs
+
+payload-stands-requires : tie.Need-payload-stands-requires
+payload-stands-requires c κs = search needs
+
+add-field-fault : tie.Need-add-field-fault
+add-field-fault c = search needs
+
+field-fault-requires : tie.Need-field-fault-requires
+field-fault-requires c κs = search needs
+
+returns : tie.Need-returns
+returns c =
+    let p = c .before .before in
+    let a = p .before .before in
+    let s = a .before .before in
+    field-told Payload _ _ (s .pre .0 .0) (s .pre .0 .1) (p .payload-stands .ensures) refl refl (ap (λ d. eqb (s .args .row .payload) d) (a .default-payload .ensures)) refl (c .field-fault .ensures)
+
+pub payload-fault-spec : {M : Type 1} → statement M
+payload-fault-spec =
+    tie.close
+    (tie.spec
+    add-inside
+    default-payload-requires
+    payload-stands-requires
+    add-field-fault
+    field-fault-requires
+    returns)

@@ -1,0 +1,135 @@
+-- `tableread::read::read_rows` meets its contract.
+use Prim.Native.Nat.{_-_}
+use mathlib.Core.Path.{_≡_, sym, _∙_, ap}
+use native.Mathlib.Omega.{arith}
+use lib.ListN.{length, length-drop}
+use denote.Ref.{now}
+use borrow.Author.Needs.{needs}
+use Rattle.table.specs.declared.Table.{Table}
+use Rattle.tablefile.specs.Reading.{outcomeOf, rowCount}
+use Rattle.tablefile.specs.Layout.{rowSize}
+use Rattle.tableread.proofs.Files.{refused-row, bytes-left, none-left}
+use Rattle.tableread.proofs.Turns.{part-is, Filling, begins, inside, goes-on, ends-at}
+use Rattle.tableread.proofs.Headers.{few-rows}
+use Rattle.tableread.proofs.read.read_rows.Statement.{statement}
+use Rattle.tableread.proofs.read.read_rows.Tie as tie
+
+abbrev Inv-loop : tie.InvT-loop
+Inv-loop s table₀ n at₀ i₀ table at i = (n ≡ rowCount s) × Filling s table at i
+
+abbrev μ-loop : tie.MeasureT-loop
+μ-loop s table₀ n at₀ i₀ table at i = n - i
+
+loop-holds : tie.Need-loop-holds Inv-loop μ-loop
+loop-holds c = (ap (λ (t : Table). t .count) (c .before .pre .1), begins _ (c .before .pre .0) (c .before .pre .1))
+
+sub-part : tie.Need-sub-part Inv-loop μ-loop
+sub-part c = omega arith
+
+part-part-start : tie.Need-part-part-start Inv-loop μ-loop
+part-part-start c = omega arith
+
+part-part-end : tie.Need-part-part-end Inv-loop μ-loop
+part-part-end c = omega arith
+
+byte-requires : tie.Need-byte-requires Inv-loop μ-loop
+byte-requires c κs = search needs
+
+row-from-requires : tie.Need-row-from-requires Inv-loop μ-loop
+row-from-requires c κs = c .byte .ensures
+
+row-fault-requires : tie.Need-row-fault-requires Inv-loop μ-loop
+row-fault-requires c κs =
+    let l = c .before .before .before .before in
+    let s = l .before .before in
+    ((c .before .byte .ensures, c .row-from .ensures), omega (arith, ap length (part-is (now (s .args .s)) (l .loop .at)), length-drop (l .loop .at) (now (s .args .s)), s .good .0))
+
+enum-known-fault : tie.Need-enum-known-fault Inv-loop μ-loop
+enum-known-fault c = search needs
+
+refused-requires : tie.Need-refused-requires Inv-loop μ-loop
+refused-requires c κs = search needs
+
+returns : tie.Need-returns Inv-loop μ-loop
+returns c =
+    let f = c .before .before in
+    let r = f .before .before in
+    let l = r .before .before .before .before .before in
+    let s = l .before .before in
+    refused-row _ (c .refused .ensures) (s .pre .0) (ends-at (now (s .args .s)) (l .loop .inv .1) (part-is (now (s .args .s)) (l .loop .at)) (omega arith) (sym (r .row-fault .ensures) ∙ ap outcomeOf (f .fault .given .1)))
+
+enum-told : tie.Need-enum-told Inv-loop μ-loop
+enum-told c = search needs
+
+mul-row : tie.Need-mul-row Inv-loop μ-loop
+mul-row c = let h = few-rows _ (c .before .before .before .before .before .before .before .before .before .pre .0) in omega (arith, h)
+
+element-set-from-row : tie.Need-element-set-from-row Inv-loop μ-loop
+element-set-from-row c = let h = few-rows _ (c .before .before .before .before .before .before .before .before .before .pre .0) in omega (arith, h)
+
+row-size-requires : tie.Need-row-size-requires Inv-loop μ-loop
+row-size-requires c κs = search needs
+
+add-at : tie.Need-add-at Inv-loop μ-loop
+add-at c =
+    let r = c .before .before .before in
+    let l = r .before .before .before .before .before in
+    let s = l .before .before in
+    let h = inside (now (s .args .s)) (l .loop .inv .1) (part-is (now (s .args .s)) (l .loop .at)) (sym (r .row-fault .ensures) ∙ ap outcomeOf (c .before .enum-told .given .1)) in
+    omega (arith, h, s .good .0)
+
+add-i : tie.Need-add-i Inv-loop μ-loop
+add-i c = let h = few-rows _ (c .before .before .before .before .before .before .before .before .before .before .pre .0) in omega (arith, h)
+
+loop-less : tie.Need-loop-less Inv-loop μ-loop
+loop-less c = omega arith
+
+loop-again : tie.Need-loop-again Inv-loop μ-loop
+loop-again c =
+    let a = c .before .before .before in
+    let r = a .before in
+    let b = r .before in
+    let l = b .before .before .before in
+    let s = l .before .before in
+    let h = few-rows _ (s .pre .0) in
+    (l .loop .inv .0, goes-on (now (s .args .s)) (l .loop .inv .1) (part-is (now (s .args .s)) (l .loop .at)) (omega arith) (omega (arith, h)) (r .row-from .ensures) (sym (a .row-fault .ensures) ∙ ap outcomeOf (c .before .enum-told .given .1)) (c .row-size .ensures .0 ∙ ap rowSize (b .byte .ensures)))
+
+refused-requires-2 : tie.Need-refused-requires-2 Inv-loop μ-loop
+refused-requires-2 c κs = search needs
+
+returns-2 : tie.Need-returns-2 Inv-loop μ-loop
+returns-2 c =
+    let l = c .before .before .before in
+    let s = l .before .before in
+    bytes-left _ (s .pre .0) (l .loop .inv .1) (omega arith) (c .refused2 .ensures) (c .before .if1 .taken)
+
+returns-3 : tie.Need-returns-3 Inv-loop μ-loop
+returns-3 c = none-left _ (c .before .before .before .before .pre .0) (c .before .before .loop .inv .1) (omega arith) (c .if1 .left)
+
+pub read-rows-spec : {M : Type 1} → statement M
+read-rows-spec =
+    tie.close
+    (tie.spec
+    Inv-loop
+    μ-loop
+    loop-holds
+    sub-part
+    part-part-start
+    part-part-end
+    byte-requires
+    row-from-requires
+    row-fault-requires
+    enum-known-fault
+    refused-requires
+    returns
+    enum-told
+    mul-row
+    element-set-from-row
+    row-size-requires
+    add-at
+    add-i
+    loop-less
+    loop-again
+    refused-requires-2
+    returns-2
+    returns-3)

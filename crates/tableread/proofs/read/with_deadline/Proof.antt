@@ -1,0 +1,43 @@
+-- `tableread::read::with_deadline` meets its contract.
+use denote.Ref.{now}
+use borrow.Author.Needs.{needs}
+use Rattle.tablefile.specs.Layout.{Deadline}
+use Rattle.tableread.proofs.Values.{field-stated, field-unstated}
+use Rattle.tableread.proofs.read.with_deadline.Statement.{statement}
+use Rattle.tableread.proofs.read.with_deadline.Tie as tie
+
+deadline-stands-requires : tie.Need-deadline-stands-requires
+deadline-stands-requires c κs = search needs
+
+deadline-place-requires : tie.Need-deadline-place-requires
+deadline-place-requires c κs = search needs
+
+u32-at-requires : tie.Need-u32-at-requires
+u32-at-requires c κs = search needs
+
+returns : tie.Need-returns
+returns c =
+    let i = c .before .before in
+    let d = i .before in
+    let s = d .before .before in
+    field-stated Deadline _ _ (s .pre) (d .deadline-stands .ensures) (i .if1 .taken) (c .before .deadline-place .ensures .0) (c .u32-at .ensures)
+
+default-deadline-requires : tie.Need-default-deadline-requires
+default-deadline-requires c κs = search needs
+
+returns-2 : tie.Need-returns-2
+returns-2 c =
+    let d = c .before .before in
+    let s = d .before .before in
+    field-unstated Deadline (now (s .args .s)) _ (s .pre) (d .deadline-stands .ensures) (c .before .if1 .left) (c .default-deadline .ensures)
+
+pub with-deadline-spec : {M : Type 1} → statement M
+with-deadline-spec =
+    tie.close
+    (tie.spec
+    deadline-stands-requires
+    deadline-place-requires
+    u32-at-requires
+    returns
+    default-deadline-requires
+    returns-2)

@@ -1,0 +1,34 @@
+-- `tableread::read::with_payload` meets its contract.
+use mathlib.Core.Path.{refl}
+use denote.Ref.{now}
+use borrow.Author.Needs.{needs}
+use Rattle.tablefile.specs.Layout.{Payload}
+use Rattle.tableread.proofs.Values.{field-stated, field-unstated}
+use Rattle.tableread.proofs.read.with_payload.Statement.{statement}
+use Rattle.tableread.proofs.read.with_payload.Tie as tie
+
+payload-stands-requires : tie.Need-payload-stands-requires
+payload-stands-requires c κs = search needs
+
+u16-at-requires : tie.Need-u16-at-requires
+u16-at-requires c κs = search needs
+
+returns : tie.Need-returns
+returns c =
+    let p = c .before .before in
+    let s = p .before .before in
+    field-stated Payload _ _ (s .pre) (p .payload-stands .ensures) (c .before .if1 .taken) refl (c .u16-at .ensures)
+
+default-payload-requires : tie.Need-default-payload-requires
+default-payload-requires c κs = search needs
+
+returns-2 : tie.Need-returns-2
+returns-2 c =
+    let p = c .before .before in
+    let s = p .before .before in
+    field-unstated Payload (now (s .args .s)) _ (s .pre) (p .payload-stands .ensures) (c .before .if1 .left) (c .default-payload .ensures)
+
+pub with-payload-spec : {M : Type 1} → statement M
+with-payload-spec =
+    tie.close
+    (tie.spec payload-stands-requires u16-at-requires returns default-payload-requires returns-2)

@@ -1,0 +1,1 @@
+-- Reading keeps the promise of `tablefile`'s specs/Reading.antt.

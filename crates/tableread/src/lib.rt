@@ -1,0 +1,2 @@
+// Reading a table file: a table from bytes.
+pub mod read;

@@ -1,0 +1,60 @@
+-- `tablewrite::write::map_byte` meets its contract.
+use borrow.Author.Needs.{needs}
+use Rattle.tablewrite.proofs.Fields.{map-is}
+use Rattle.tablewrite.proofs.write.map_byte.Statement.{statement}
+use Rattle.tablewrite.proofs.write.map_byte.Tie as tie
+
+default-payload-requires : tie.Need-default-payload-requires
+default-payload-requires c κs = search needs
+
+bit-for-requires : tie.Need-bit-for-requires
+bit-for-requires c κs = search needs
+
+default-period-requires : tie.Need-default-period-requires
+default-period-requires c κs = search needs
+
+bit-for-requires-2 : tie.Need-bit-for-requires-2
+bit-for-requires-2 c κs = search needs
+
+default-deadline-requires : tie.Need-default-deadline-requires
+default-deadline-requires c κs = search needs
+
+bit-for-requires-3 : tie.Need-bit-for-requires-3
+bit-for-requires-3 c κs = search needs
+
+add-result : tie.Need-add-result
+add-result c = search needs
+
+add-result-2 : tie.Need-add-result-2
+add-result-2 c = search needs
+
+class-bit-requires : tie.Need-class-bit-requires
+class-bit-requires c κs = search needs
+
+add-result-3 : tie.Need-add-result-3
+add-result-3 c = search needs
+
+returns : tie.Need-returns
+returns c =
+    let f = c .before .before .before in
+    let e = f .before in
+    let a = e .before .before in
+    let b = a .before in
+    let d = b .before .before in
+    map-is _ (d .default-payload .ensures) (a .default-period .ensures) (f .default-deadline .ensures) (b .bit-for .ensures .0) (e .bit-for2 .ensures .0) (c .before .bit-for3 .ensures .0) (c .class-bit .ensures .0)
+
+pub map-byte-spec : {M : Type 1} → statement M
+map-byte-spec =
+    tie.close
+    (tie.spec
+    default-payload-requires
+    bit-for-requires
+    default-period-requires
+    bit-for-requires-2
+    default-deadline-requires
+    bit-for-requires-3
+    add-result
+    add-result-2
+    class-bit-requires
+    add-result-3
+    returns)

@@ -1,0 +1,2 @@
+// Writing a table file: bytes from a table.
+pub mod write;

@@ -1,0 +1,193 @@
+// Writing a table file.
+ghost use mathlib.Core.Path.{_≡_};
+ghost use mathlib.Core.Bool.{cond};
+ghost use mathlib.Core.List.{[], _++_};
+ghost use Prim.Native.Nat.{_+_, _≤_, _<_};
+ghost use lib.ListN.{length, set, drop};
+ghost use lib.Seq.{sets};
+ghost use Rattle.table.specs.Limits.{mostRows};
+ghost use Rattle.table.specs.Rows.{rowsOf, contents};
+ghost use Rattle.tablefile.specs.Layout.{letters, headerSize, bytesOf, classBit};
+ghost use Rattle.tablefile.specs.Writing.{mapByte, rowBytes, rowsBytes, headerBytes, fileOf, Writes};
+use table::Class;
+use table::Row;
+use table::Table;
+use table::Verdict;
+use table::ranges::ranges;
+use tablefile::Writing;
+use tablefile::layout::BEST_PLACE;
+use tablefile::layout::COUNT_PLACE;
+use tablefile::layout::HEADER_SIZE;
+use tablefile::layout::IDLEA_PLACE;
+use tablefile::layout::IDLEB_PLACE;
+use tablefile::layout::LETTERS;
+use tablefile::layout::PAYLOAD_PLACE;
+use tablefile::layout::deadline_place;
+use tablefile::layout::deadline_stands;
+use tablefile::layout::default_deadline;
+use tablefile::layout::default_payload;
+use tablefile::layout::default_period;
+use tablefile::layout::payload_stands;
+use tablefile::layout::period_place;
+use tablefile::layout::period_stands;
+use tablefile::layout::row_size;
+
+// Every byte of a file is stored here.
+fn put(out: &mut [u8], at: usize, b: u8)
+    requires { ⌜ at < length (now out) ⌝ }
+    ensures { λ _. ⌜ now (out .exit) ≡ set (now (out .entry)) at b ⌝ }
+{
+    out[at] = b;
+}
+
+fn put16(out: &mut [u8], at: usize, v: u16)
+    requires { ⌜ at + 2 ≤ length (now out) ⌝ }
+    ensures { λ _. ⌜ now (out .exit) ≡ sets (now (out .entry)) at (bytesOf 2 v) ⌝ }
+{
+    put(out, at, (v / 256) as u8);
+    put(out, at + 1, (v % 256) as u8);
+}
+
+fn put32(out: &mut [u8], at: usize, v: u32)
+    requires { ⌜ at + 4 ≤ length (now out) ⌝ }
+    ensures { λ _. ⌜ now (out .exit) ≡ sets (now (out .entry)) at (bytesOf 4 v) ⌝ }
+{
+    put16(out, at, (v / 65_536) as u16);
+    put16(out, at + 2, (v % 65_536) as u16);
+}
+
+fn put_letters(out: &mut [u8])
+    requires { ⌜ 4 ≤ length (now out) ⌝ }
+    ensures { λ _. ⌜ now (out .exit) ≡ sets (now (out .entry)) 0 letters ⌝ }
+{
+    let mut i: usize = 0;
+    while i < 4 {
+        put(out, i, LETTERS[i]);
+        i += 1;
+    }
+}
+
+fn write_header(t: Table, out: &mut [u8])
+    requires { ⌜ t .count ≤ mostRows ⌝ }
+    requires { ⌜ headerSize ≤ length (now out) ⌝ }
+    ensures { λ _. ⌜ now (out .exit) ≡ sets (now (out .entry)) 0 (headerBytes (contents t)) ⌝ }
+{
+    let h = t.header;
+    put_letters(out);
+    put32(out, IDLEA_PLACE, h.idlea);
+    put32(out, IDLEB_PLACE, h.idleb);
+    put16(out, BEST_PLACE, h.payload);
+    put(out, COUNT_PLACE, t.count as u8);
+}
+
+// A bit of a map byte: none for a field at its default.
+fn bit_for(usual: bool, bit: u8) -> u8
+    ensures { λ r. ⌜ r ≡ cond usual 0 bit ⌝ }
+    ensures small { λ r. ⌜ r ≤ bit ⌝ }
+{
+    if usual {
+        return 0;
+    }
+    bit
+}
+
+fn class_bit(class: Class) -> u8
+    ensures { λ r. ⌜ r ≡ classBit class ⌝ }
+    ensures small { λ r. ⌜ r ≤ 128 ⌝ }
+{
+    match class {
+        Class::A => 0,
+        Class::B => 128,
+    }
+}
+
+fn map_byte(row: Row) -> u8
+    ensures { λ r. ⌜ r ≡ mapByte row ⌝ }
+{
+    let class = row.class;
+    let payload = bit_for(row.payload == default_payload(row), 1);
+    let period = bit_for(row.period == default_period(row), 2);
+    let deadline = bit_for(row.deadline == default_deadline(row), 4);
+    payload + period + deadline + class_bit(class)
+}
+
+// A field, if its bit stands.
+fn put_field16(out: &mut [u8], at: usize, stands: bool, value: u16)
+    requires { ⌜ at + length (cond stands (bytesOf 2 value) []) ≤ length (now out) ⌝ }
+    ensures { λ _. ⌜ now (out .exit) ≡ sets (now (out .entry)) at (cond stands (bytesOf 2 value) []) ⌝ }
+{
+    if !stands {
+        return;
+    }
+    put16(out, at, value);
+}
+
+fn put_field32(out: &mut [u8], at: usize, stands: bool, value: u32)
+    requires { ⌜ at + length (cond stands (bytesOf 4 value) []) ≤ length (now out) ⌝ }
+    ensures { λ _. ⌜ now (out .exit) ≡ sets (now (out .entry)) at (cond stands (bytesOf 4 value) []) ⌝ }
+{
+    if !stands {
+        return;
+    }
+    put32(out, at, value);
+}
+
+// A row at the start of a buffer, and how many bytes it has. All goes by the map byte.
+fn write_row(row: Row, out: &mut [u8]) -> usize
+    requires { ⌜ length (rowBytes row) ≤ length (now out) ⌝ }
+    ensures { λ r. ⌜ r ≡ length (rowBytes row) ⌝ }
+    ensures { λ _. ⌜ now (out .exit) ≡ rowBytes row ++ drop (length (rowBytes row)) (now (out .entry)) ⌝ }
+{
+    let map = map_byte(row);
+    put(out, 0, map);
+    put_field16(out, PAYLOAD_PLACE, payload_stands(map), row.payload);
+    put_field32(out, period_place(map), period_stands(map), row.period);
+    put_field32(out, deadline_place(map), deadline_stands(map), row.deadline);
+    row_size(map)
+}
+
+// The length of a table's file.
+fn file_size(t: Table) -> usize
+    requires { ⌜ t .count ≤ mostRows ⌝ }
+    ensures { λ r. ⌜ r ≡ length (fileOf (contents t)) ⌝ }
+{
+    let count = t.count;
+    let mut size: usize = HEADER_SIZE;
+    let mut i: usize = 0;
+    while i < count {
+        size += row_size(map_byte(t.rows[i]));
+        i += 1;
+    }
+    size
+}
+
+// The rows, one after the other into the part behind what is written so far.
+fn write_rows(t: Table, out: &mut [u8])
+    requires { ⌜ t .count ≤ mostRows ⌝ }
+    requires { ⌜ length (fileOf (contents t)) ≤ length (now out) ⌝ }
+    ensures { λ _. ⌜ now (out .exit) ≡ sets (now (out .entry)) headerSize (rowsBytes (rowsOf t)) ⌝ }
+{
+    let n = t.count;
+    let mut at: usize = HEADER_SIZE;
+    let mut i: usize = 0;
+    while i < n {
+        at += write_row(t.rows[i], &mut out[at..]);
+        i += 1;
+    }
+}
+
+// A table's file into a buffer. A refusal comes before the first byte.
+pub fn write(t: Table, out: &mut [u8]) -> Writing
+    ensures { λ r. ⌜ Writes t (now (out .entry)) (now (out .exit)) r ⌝ }
+{
+    if let Verdict::Refused(r) = ranges(t) {
+        return Writing::Refused(r);
+    }
+    let size = file_size(t);
+    if out.len() < size {
+        return Writing::TooShort;
+    }
+    write_header(t, out);
+    write_rows(t, out);
+    Writing::Written(size)
+}

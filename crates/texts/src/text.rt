@@ -1,0 +1,84 @@
+// Texts put into a buffer.
+ghost use mathlib.Core.Path.{_≡_};
+ghost use Prim.Native.Nat.{_+_, _≤_};
+ghost use lib.ListN.{length};
+ghost use Rattle.texts.specs.Text.{decimal, pair, lineOf, usedBy, putAt, Put};
+
+// An answer as it is printed: `refused`, number and place; or `0`, byte-times passed and the ended frame's row.
+pub enum Answer {
+    Refused(u64, u64),
+    Passed(u64, u64),
+}
+
+// Puts a text behind the first `at` bytes of a buffer, and answers how many bytes are in use then. Where it finds no room nothing is put.
+pub fn put(out: &mut [u8], at: usize, text: &[u8]) -> usize
+    ensures { λ r. ⌜ r ≡ usedBy (now (text .entry)) at (now (out .entry)) ⌝ }
+    ensures { λ _. ⌜ now (out .exit) ≡ putAt (now (text .entry)) at (now (out .entry)) ⌝ }
+{
+    if out.len() < at {
+        return at;
+    }
+    if out.len() - at < text.len() {
+        return at;
+    }
+    let mut i = 0;
+    while i < text.len() {
+        out[at + i] = text[i];
+        i += 1;
+    }
+    at + i
+}
+
+// The same of a text that has room.
+fn add(out: &mut [u8], at: usize, text: &[u8]) -> usize
+    requires { ⌜ at + length (now text) ≤ length (now out) ⌝ }
+    ensures { λ r. ⌜ Put (length (now (text .entry))) (now (text .entry)) (now (out .entry)) at (now (out .exit)) r ⌝ }
+{
+    put(out, at, text)
+}
+
+fn put_number(out: &mut [u8], at: usize, n: u64) -> usize
+    requires { ⌜ at + 20 ≤ length (now out) ⌝ }
+    ensures { λ r. ⌜ Put 20 (decimal n) (now (out .entry)) at (now (out .exit)) r ⌝ }
+{
+    let mut digits = [0u8; 20];
+    let k = io::decimal(n, &mut digits);
+    add(out, at, &digits[..k])
+}
+
+// Two numbers, and the line's end.
+fn put_pair(out: &mut [u8], at: usize, x: u64, y: u64) -> usize
+    requires { ⌜ at + 42 ≤ length (now out) ⌝ }
+    ensures { λ r. ⌜ Put 42 (pair x y) (now (out .entry)) at (now (out .exit)) r ⌝ }
+{
+    let first = put_number(out, at, x);
+    let gap = add(out, first, b" ");
+    let second = put_number(out, gap, y);
+    add(out, second, b"\n")
+}
+
+fn spell(out: &mut [u8], a: Answer) -> usize
+    requires { ⌜ 50 ≤ length (now out) ⌝ }
+    ensures { λ r. ⌜ Put 50 (lineOf a) (now (out .entry)) 0 (now (out .exit)) r ⌝ }
+{
+    match a {
+        Answer::Refused(number, place) => {
+            let n = add(out, 0, b"refused ");
+            put_pair(out, n, number, place)
+        }
+        Answer::Passed(passed, row) => {
+            let n = add(out, 0, b"0 ");
+            put_pair(out, n, passed, row)
+        }
+    }
+}
+
+// An answer's line, put as a text is. It has at most 50 bytes.
+pub fn put_answer(out: &mut [u8], at: usize, a: Answer) -> usize
+    ensures { λ r. ⌜ r ≡ usedBy (lineOf a) at (now (out .entry)) ⌝ }
+    ensures { λ _. ⌜ now (out .exit) ≡ putAt (lineOf a) at (now (out .entry)) ⌝ }
+{
+    let mut line = [0u8; 50];
+    let n = spell(&mut line, a);
+    put(out, at, &line[..n])
+}

@@ -1,0 +1,5 @@
+-- Laws that belong to no one function. `Laws` is what the crates above may cite.
+mod Stored
+mod Storing
+mod Fitting
+pub mod Laws

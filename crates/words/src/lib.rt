@@ -1,0 +1,2 @@
+// Words of 64 bits in byte slices.
+pub mod words;
