@@ -167,7 +167,7 @@ module _ (s : State) (c : Clauses s) where
   young-on Free t l a = tt
   young-on (Sending f left) t l a = young-sending f t l a
 
-  pub youth : Youth s
+  youth : Youth s
   youth = record { queues = queues-young; wire = young-on (s .wire) (taken-parts .2) (latest-parts .2) (age-parts .2) }
 
   few-at : (k : ℕ) → InUse (s .table) k → held k s ≤ mostOf (s .table) k
