@@ -196,6 +196,10 @@ as-machine : {t : Table} {es : List Event} {p : Port} → Run t es p → AsMachi
 as-machine {t} (opened o e) = tt
 as-machine {t} (called {c = c} r g) = (g .answer ∙ ap (λ (s : State). answer s c) (on-machine r), as-machine r)
 
+-- every run leads to a sound record
+pub run-sound : {t : Table} {es : List Event} {p : Port} → Run t es p → sound (view p) ≡ true
+run-sound {t} r = sound-along (contents t) (opened-accepted r) (along (contents t) (opened-accepted r) (traced r))
+
 -- A step of a run is any call that promises `Gives`: those by value, and the advance of a lent record (crate lent).
 pub every-run : EveryRun
 every-run t es p r =

@@ -1,6 +1,6 @@
 -- What the crates above may cite.
 pub use Rattle.recordbytes.proofs.Signs.{word-plain, fits-up, word-up, fits-turned, fits-down, below-top, word-down, plain, not-negative, negative-fits, negative}
-pub use Rattle.recordbytes.proofs.Sizes.{table-length, a-length, b-length, best-length, last-length, record-length}
-pub use Rattle.recordbytes.proofs.Owned.{port-fits}
-pub use Rattle.recordbytes.proofs.Same.{told}
-pub use Rattle.recordbytes.proofs.Plainly.{plain-view, lastsOf, lasts-placed, waiting-placed, placed-length}
+pub use Rattle.recordbytes.proofs.Lists.{each-none, each-next, each-fails}
+pub use Rattle.recordbytes.proofs.Owned.{owned-numbered}
+pub use Rattle.recordbytes.proofs.Placing.{placed-none, placed-next, placed-are, contents-back}
+pub use Rattle.recordbytes.proofs.Tested.{Head, head-words, Counts, counts, long, named-placed}

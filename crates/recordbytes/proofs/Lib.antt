@@ -1,10 +1,10 @@
 -- Laws that belong to no one function. `Trip` has the theorems; `Laws` is what the crates above may cite.
 mod Signs
-mod Sizes
+mod Lists
 mod Owned
-mod Same
-mod Held
-mod Readable
-mod Plainly
+mod Fields
+mod Tested
+mod Stands
+mod Placing
 pub mod Trip
 pub mod Laws

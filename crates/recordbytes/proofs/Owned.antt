@@ -1,31 +1,41 @@
--- What owning a port tells of it.
+-- What owning a port record tells of its parts: every number fits its field.
+use mathlib.Core.Bool.{Bool, true, false, cond}
 use mathlib.Core.List.{List, [], _∷_, map}
+use native.Mathlib.Omega.{arith}
+use lib.ListN.{length, take, replicate}
 use mir.Val.{Val}
 use base.Fml.{Fml}
 use denote.Shadow.{shadow}
 use denote.Laws.{Is}
-use denote.Array.{each}
 use denote.Struct.Declared as struct
 use denote.Enum.Declared as enum
+use denote.Array.{each}
+use Prim.Native.Nat.{ℕ, _-_}
 use Rattle.table.specs.declared.Row.{Row}
+use Rattle.table.specs.Rows.{noRow, rowsOf}
 use Rattle.machine.specs.declared.Frame.{Frame}
 use Rattle.machine.specs.declared.Wire.{Wire}
 use Rattle.machine.specs.declared.Wire.the-variants.{Free, Sending}
 use Rattle.machine.specs.declared.Last.{Last}
 use Rattle.machine.specs.declared.Port.{Port}
+use Rattle.machine.specs.State.{never, at, noFrame, waiting, instantOf, instantsOf, view}
 use Rattle.table.proofs.Row as row
 use Rattle.machine.proofs.Frame as frame
 use Rattle.machine.proofs.Wire as wire
 use Rattle.machine.proofs.Last as last
 use Rattle.machine.proofs.Port as port
-use Rattle.machine.proofs.Places.{port-places}
-use Rattle.recordbytes.specs.Fits.{Every, RowFits, FrameFits, LastFits, WireFits, Fits}
+use Rattle.words.specs.Words.{Every, Word}
+use Rattle.recordbytes.specs.Fits.{HeaderFits, RowFits, FrameFits, InstantFits, WireFits, Numbered}
+use Rattle.recordbytes.proofs.Lists.{every-append, every-take, every-same, every-map}
 
 row-owned : (r : Row) (vs : List Val) → Is (struct.row row.the-type) r vs → RowFits r
 row-owned r vs e = record { payload = e .1 .1 .1 .0 .1; period = e .1 .1 .1 .1 .0 .1; deadline = e .1 .1 .1 .1 .1 .0 .1 }
 
 frame-owned : (x : Frame) (vs : List Val) → Is (struct.row frame.the-type) x vs → FrameFits x
 frame-owned x vs e = record { source = e .1 .1 .0 .1; size = e .1 .1 .1 .0 .1; taken = e .1 .1 .1 .1 .0 .1 }
+
+abbrev LastFits : Last → Type 0
+LastFits l = Word (l .taken)
 
 last-owned : (l : Last) (vs : List Val) → Is (struct.row last.the-type) l vs → LastFits l
 last-owned l vs e = e .1 .1 .1 .0 .1
@@ -39,28 +49,37 @@ every-owned to own P f [] us e = tt
 every-owned to own P f (x ∷ xs) [] e = absurd e
 every-owned to own P f (x ∷ xs) (u ∷ us) e = (f x (u ∷ []) (e .0), every-owned to own P f xs us (e .1))
 
--- every port that a program holds fits
-pub port-fits : (p : Port) (vs : List Val) → Is (struct.row port.the-type) p vs → Fits p
-port-fits p vs e =
+-- ---- from the places to the parts
+waiting-fits : (n : ℕ) (fs : List Frame) → Every FrameFits fs → Every FrameFits (waiting n fs)
+waiting-fits n fs f = every-append FrameFits (take n fs) _ (every-take FrameFits n fs f) (every-same FrameFits (n - length fs) noFrame (record { source = omega arith; size = omega arith; taken = omega arith }))
+
+instant-fits : (l : Last) → LastFits l → InstantFits (instantOf l)
+instant-fits l h = go (l .known)
+  where
+    go : (b : Bool) → InstantFits (cond b (at (l .taken)) never)
+    go true = h
+    go false = tt
+
+instants-fit : (n : ℕ) (ls : List Last) → Every LastFits ls → Every InstantFits (instantsOf n ls)
+instants-fit n ls f = every-append InstantFits (map instantOf (take n ls)) _ (every-map InstantFits instantOf LastFits instant-fits (take n ls) (every-take LastFits n ls f)) (every-same InstantFits (n - length ls) never tt)
+
+-- every port that a program holds
+pub owned-numbered : (p : Port) (vs : List Val) → Is (struct.row port.the-type) p vs → Numbered (view p)
+unfolding view rowsOf
+owned-numbered p vs e =
     let t = e .1 .1 .0 .1 .1 in
     let r = e .1 .1 .1 in
     let q = r .1 .1 .1 in
+    let rows = every-owned _ _ RowFits row-owned (p .table .rows) _ (t .1 .1 .0 .1 .1) in
     record {
-      places = port-places p vs e;
-      idlea = t .0 .1 .1 .0 .1;
-      idleb = t .0 .1 .1 .1 .0 .1;
-      payload = t .0 .1 .1 .1 .1 .0 .1;
-      count = t .1 .0 .1;
-      rows = every-owned _ _ RowFits row-owned (p .table .rows) _ (t .1 .1 .0 .1 .1);
+      header = record { idlea = t .0 .1 .1 .0 .1; idleb = t .0 .1 .1 .1 .0 .1; payload = t .0 .1 .1 .1 .1 .0 .1 };
+      rows = every-append RowFits (take (p .table .count) (p .table .rows)) _ (every-take RowFits (p .table .count) (p .table .rows) rows) (every-same RowFits (p .table .count - length (p .table .rows)) noRow (record { payload = omega arith; period = omega arith; deadline = omega arith }));
       clock = r .0 .1;
       credita = r .1 .0 .1;
       creditb = r .1 .1 .0 .1;
-      counta = q .0 .1 .1 .0 .1;
-      countb = q .1 .0 .1 .1 .0 .1;
-      countbest = q .1 .1 .0 .1 .1 .0 .1;
-      framesa = every-owned _ _ FrameFits frame-owned (p .a .frames) _ (q .0 .1 .1 .1 .0 .1 .1);
-      framesb = every-owned _ _ FrameFits frame-owned (p .b .frames) _ (q .1 .0 .1 .1 .1 .0 .1 .1);
-      framesbest = every-owned _ _ FrameFits frame-owned (p .best .frames) _ (q .1 .1 .0 .1 .1 .1 .0 .1 .1);
-      last = every-owned _ _ LastFits last-owned (p .last) _ (q .1 .1 .1 .0 .1 .1);
+      a = waiting-fits (p .a .count) (p .a .frames) (every-owned _ _ FrameFits frame-owned (p .a .frames) _ (q .0 .1 .1 .1 .0 .1 .1));
+      b = waiting-fits (p .b .count) (p .b .frames) (every-owned _ _ FrameFits frame-owned (p .b .frames) _ (q .1 .0 .1 .1 .1 .0 .1 .1));
+      best = waiting-fits (p .best .count) (p .best .frames) (every-owned _ _ FrameFits frame-owned (p .best .frames) _ (q .1 .1 .0 .1 .1 .1 .0 .1 .1));
+      last = instants-fit (p .table .count) (p .last) (every-owned _ _ LastFits last-owned (p .last) _ (q .1 .1 .1 .0 .1 .1));
       wire = wire-owned (p .wire) _ (q .1 .1 .1 .1 .0);
     }

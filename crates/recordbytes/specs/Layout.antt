@@ -1,48 +1,46 @@
--- Where the parts of a port record stand: 447 words, each at its place.
---   0 to 3       idle slope of A, of B, best-effort payload, row count
---   4 to 131     32 rows: class (0 A, 1 B), payload, period, deadline
---   132 to 134   clock, credit of A, of B (two's complement)
---   135 to 231   queue of A: count, 32 frames: source, size, instant taken
---   232 to 328   queue of B
---   329 to 377   best-effort queue: count, 16 frames
---   378 to 441   32 last instants: known (0 or 1), instant
---   442 to 446   wire: 0 and four zeros when free; 1, the frame and its bytes left
+-- Where the parts of a port record stand: 448 words, each at its place.
+--   0            the layout's version
+--   1 to 4       idle slope of A, of B, best-effort payload, row count
+--   5 to 132     32 rows: class (0 A, 1 B), payload, period, deadline
+--   133 to 135   clock, credit of A, of B (two's complement)
+--   136 to 232   queue of A: count, 32 frames: source, size, instant taken
+--   233 to 329   queue of B
+--   330 to 378   best-effort queue: count, 16 frames
+--   379 to 442   32 last instants: mark (1 if there is one, else 0), instant
+--   443 to 447   wire: 0 when free; 1, the frame and its bytes left
 use Prim.Native.Nat.{ℕ}
 
--- The first word of each part.
-abbrev pub tableStart : ℕ
-tableStart = 0
+-- The version is above every idle slope, with which records began before they had one.
+abbrev pub version : ℕ
+version = 1000001
+
+-- The first word of each part, and of the header the row count's.
+abbrev pub headStart : ℕ
+headStart = 0
+
+abbrev pub countPlace : ℕ
+countPlace = 4
+
+abbrev pub rowsStart : ℕ
+rowsStart = 5
 
 abbrev pub clockStart : ℕ
-clockStart = 132
-
-abbrev pub creditaStart : ℕ
-creditaStart = 133
-
-abbrev pub creditbStart : ℕ
-creditbStart = 134
+clockStart = 133
 
 abbrev pub queueaStart : ℕ
-queueaStart = 135
+queueaStart = 136
 
 abbrev pub queuebStart : ℕ
-queuebStart = 232
+queuebStart = 233
 
 abbrev pub bestStart : ℕ
-bestStart = 329
+bestStart = 330
 
 abbrev pub lastStart : ℕ
-lastStart = 378
+lastStart = 379
 
 abbrev pub wireStart : ℕ
-wireStart = 442
-
--- The words of a table's header and row count, of the clock and the credits.
-abbrev pub headerWidth : ℕ
-headerWidth = 4
-
-abbrev pub numbersWidth : ℕ
-numbersWidth = 3
+wireStart = 443
 
 -- The words of a row, a frame and an instant.
 abbrev pub rowWidth : ℕ
@@ -54,25 +52,9 @@ frameWidth = 3
 abbrev pub lastWidth : ℕ
 lastWidth = 2
 
--- The words of a table, a queue, the best-effort queue, the instants, the wire, and of a record.
-abbrev pub tableWidth : ℕ
-tableWidth = 132
-
-abbrev pub queueWidth : ℕ
-queueWidth = 97
-
-abbrev pub bestWidth : ℕ
-bestWidth = 49
-
-abbrev pub lastsWidth : ℕ
-lastsWidth = 64
-
-abbrev pub wireWidth : ℕ
-wireWidth = 5
-
+-- The words and the bytes of a record.
 abbrev pub recordWidth : ℕ
-recordWidth = 447
+recordWidth = 448
 
--- The bytes of a record.
 abbrev pub recordSize : ℕ
-recordSize = 3576
+recordSize = 3584

@@ -1,72 +1,72 @@
--- A port's words, and what bytes are read as.
+-- A port record as bytes: the words of each part at its place, and what bytes are read as. Words that belong to no part, as those of queue places behind the last
+-- frame, are not looked at, and keep what they hold.
 use Prim.Native.Nat.{ℕ, zero, suc, _+_, _-_, _%_}
-use mathlib.Core.Bool.{Bool, true, false, cond, _&&_}
-use mathlib.Core.List.{List, [], _∷_, _++_}
+use mathlib.Core.Bool.{Bool, true, cond, _&&_}
+use mathlib.Core.List.{List, [], _∷_}
 use lib.Dec.{leb, eqb}
 use lib.IntN.{ℤ, pos, negsuc}
+use lib.ListN.{length, take}
 use Rattle.table.specs.declared.Class.{Class}
 use Rattle.table.specs.declared.Class.the-variants.{A, B}
 use Rattle.table.specs.declared.Row.{Row}
-use Rattle.table.specs.declared.Table.{Table}
 use Rattle.table.specs.Limits.{mostRows}
+use Rattle.table.specs.Rows.{Contents}
 use Rattle.machine.specs.declared.Frame.{Frame}
 use Rattle.machine.specs.declared.Wire.{Wire}
 use Rattle.machine.specs.declared.Wire.the-variants.{Free, Sending}
-use Rattle.machine.specs.declared.Queue.{Queue}
-use Rattle.machine.specs.declared.BestQueue.{BestQueue}
-use Rattle.machine.specs.declared.Last.{Last}
-use Rattle.machine.specs.declared.Port.{Port}
 use Rattle.machine.specs.Limits.{classPlaces, bestPlaces}
-use Rattle.words.specs.Words.{flat, wordBytes, wordAt}
-use Rattle.recordbytes.specs.declared.Reading.{Reading}
-use Rattle.recordbytes.specs.Layout.{tableStart, clockStart, creditaStart, creditbStart, queueaStart, queuebStart, bestStart, lastStart, wireStart, headerWidth, rowWidth, frameWidth, lastWidth}
+use Rattle.machine.specs.State.{Instant, never, at, State}
+use Rattle.machine.specs.Record.{allTrue}
+use Rattle.words.specs.Words.{wordAt, stored, spread, gathered}
+use Rattle.recordbytes.specs.Layout.{version, headStart, countPlace, rowsStart, clockStart, queueaStart, queuebStart, bestStart, lastStart, wireStart, rowWidth, frameWidth, lastWidth, recordSize}
 
--- ---- the words of a port
+-- ---- the words of a port's parts
+abbrev pub headWords : Contents → List ℕ
+headWords t = version ∷ t .header .idlea ∷ t .header .idleb ∷ t .header .payload ∷ length (t .rows) ∷ []
+
 abbrev pub classWord : Class → ℕ
 classWord A = 0
 classWord B = 1
 
-abbrev pub boolWord : Bool → ℕ
-boolWord false = 0
-boolWord true = 1
+abbrev pub rowWords : Row → List ℕ
+rowWords r = classWord (r .class) ∷ r .payload ∷ r .period ∷ r .deadline ∷ []
 
 -- Two's complement: −(n + 1) is 2 ^ 64 − 1 − n.
 abbrev pub signedWord : ℤ → ℕ
 signedWord (pos n) = n
 signedWord (negsuc n) = 18446744073709551615 - n
 
-abbrev pub rowWords : Row → List ℕ
-rowWords r = classWord (r .class) ∷ r .payload ∷ r .period ∷ r .deadline ∷ []
-
-abbrev pub tableWords : Table → List ℕ
-tableWords t = t .header .idlea ∷ t .header .idleb ∷ t .header .payload ∷ t .count ∷ flat rowWords (t .rows)
-
-abbrev pub numberWords : Port → List ℕ
-numberWords p = p .clock ∷ signedWord (p .credita) ∷ signedWord (p .creditb) ∷ []
+abbrev pub numberWords : State → List ℕ
+numberWords s = s .clock ∷ signedWord (s .credita) ∷ signedWord (s .creditb) ∷ []
 
 abbrev pub frameWords : Frame → List ℕ
 frameWords f = f .source ∷ f .size ∷ f .taken ∷ []
 
-abbrev pub queueWords : Queue → List ℕ
-queueWords q = q .count ∷ flat frameWords (q .frames)
-
-abbrev pub bestWords : BestQueue → List ℕ
-bestWords q = q .count ∷ flat frameWords (q .frames)
-
-abbrev pub lastWords : Last → List ℕ
-lastWords l = boolWord (l .known) ∷ l .taken ∷ []
+-- Of a row that has no last instant, and of a free wire, only the mark.
+abbrev pub lastWords : Instant → List ℕ
+lastWords never = 0 ∷ []
+lastWords (at k) = 1 ∷ k ∷ []
 
 abbrev pub wireWords : Wire → List ℕ
-wireWords Free = 0 ∷ 0 ∷ 0 ∷ 0 ∷ 0 ∷ []
+wireWords Free = 0 ∷ []
 wireWords (Sending f left) = 1 ∷ f .source ∷ f .size ∷ f .taken ∷ left ∷ []
 
-unfoldable pub recordWords : Port → List ℕ
-recordWords p =
-    tableWords (p .table)
-    ++ (numberWords p ++ (queueWords (p .a) ++ (queueWords (p .b) ++ (bestWords (p .best) ++ (flat lastWords (p .last) ++ wireWords (p .wire))))))
+-- ---- bytes with a port's parts stored over them: every word that belongs to no part keeps what it holds
+unfoldable pub tableOver : Contents → List ℕ → List ℕ
+tableOver t s = spread rowWords rowWidth rowsStart (take mostRows (t .rows)) (stored s headStart (headWords t))
 
-unfoldable pub recordBytes : Port → List ℕ
-recordBytes p = flat wordBytes (recordWords p)
+unfoldable pub queueOver : ℕ → ℕ → List Frame → List ℕ → List ℕ
+queueOver k places q s = spread frameWords frameWidth (k + 1) (take places q) (stored s k (length q ∷ []))
+
+unfoldable pub recordOver : State → List ℕ → List ℕ
+recordOver p s =
+    let table = tableOver (p .table) s in
+    let numbers = stored table clockStart (numberWords p) in
+    let a = queueOver queueaStart classPlaces (p .a) numbers in
+    let b = queueOver queuebStart classPlaces (p .b) a in
+    let best = queueOver bestStart bestPlaces (p .best) b in
+    let lasts = spread lastWords lastWidth lastStart (take mostRows (p .last)) best in
+    stored lasts wireStart (wireWords (p .wire))
 
 -- ---- the port that words name: of a word that is larger than its field, what the field can hold
 abbrev pub u16Of : ℕ → ℕ
@@ -78,9 +78,6 @@ u32Of w = w % 4294967296
 abbrev pub classOf : ℕ → Class
 classOf w = cond (eqb w 0) A B
 
-abbrev pub boolOf : ℕ → Bool
-boolOf w = eqb w 1
-
 abbrev pub signedOf : ℕ → ℤ
 signedOf w = cond (leb w 9223372036854775807) (pos w) (negsuc (18446744073709551615 - w))
 
@@ -90,53 +87,79 @@ rowAt s k = record { class = classOf (wordAt s k); payload = u16Of (wordAt s (k 
 abbrev pub frameAt : List ℕ → ℕ → Frame
 frameAt s k = record { source = u32Of (wordAt s k); size = u32Of (wordAt s (k + 1)); taken = wordAt s (k + 2) }
 
-abbrev pub lastAt : List ℕ → ℕ → Last
-lastAt s k = record { known = boolOf (wordAt s k); taken = wordAt s (k + 1) }
-
--- n things, each of `size` words, from the word of number k on.
-unfoldable pub gathered : {X : Type 0} → (ℕ → X) → ℕ → ℕ → ℕ → List X
-gathered f size k zero = []
-gathered f size k (suc n) = f k ∷ gathered f size (k + size) n
-
-unfoldable pub tableAt : List ℕ → ℕ → Table
-tableAt s k =
-    record {
-      header = record { idlea = u32Of (wordAt s k); idleb = u32Of (wordAt s (k + 1)); payload = u16Of (wordAt s (k + 2)) };
-      count = wordAt s (k + 3);
-      rows = gathered (rowAt s) rowWidth (k + headerWidth) mostRows;
-    }
-
-unfoldable pub queueAt : List ℕ → ℕ → Queue
-queueAt s k = record { count = wordAt s k; frames = gathered (frameAt s) frameWidth (k + 1) classPlaces }
-
-unfoldable pub bestAt : List ℕ → ℕ → BestQueue
-bestAt s k = record { count = wordAt s k; frames = gathered (frameAt s) frameWidth (k + 1) bestPlaces }
+abbrev pub instantAt : List ℕ → ℕ → Instant
+instantAt s k = cond (eqb (wordAt s k) 1) (at (wordAt s (k + 1))) never
 
 unfoldable pub wireAt : List ℕ → ℕ → Wire
-wireAt s k = cond (eqb (wordAt s k) 0) Free (Sending (frameAt s (k + 1)) (u32Of (wordAt s (k + 4))))
+wireAt s k = cond (eqb (wordAt s k) 1) (Sending (frameAt s (k + 1)) (u32Of (wordAt s (k + 4)))) Free
 
-unfoldable pub portOf : List ℕ → Port
-portOf s =
+abbrev pub queueAt : List ℕ → ℕ → List Frame
+queueAt s k = gathered (frameAt s) frameWidth (k + 1) (wordAt s k)
+
+unfoldable pub stateOf : List ℕ → State
+stateOf s =
     record {
-      table = tableAt s tableStart;
+      table =
+          record {
+            header = record { idlea = u32Of (wordAt s 1); idleb = u32Of (wordAt s 2); payload = u16Of (wordAt s 3) };
+            rows = gathered (rowAt s) rowWidth rowsStart (wordAt s countPlace);
+          };
       clock = wordAt s clockStart;
-      credita = signedOf (wordAt s creditaStart);
-      creditb = signedOf (wordAt s creditbStart);
+      credita = signedOf (wordAt s (clockStart + 1));
+      creditb = signedOf (wordAt s (clockStart + 2));
       a = queueAt s queueaStart;
       b = queueAt s queuebStart;
-      best = bestAt s bestStart;
-      last = gathered (lastAt s) lastWidth lastStart mostRows;
+      best = queueAt s bestStart;
+      last = gathered (instantAt s) lastWidth lastStart (wordAt s countPlace);
       wire = wireAt s wireStart;
     }
 
--- ---- what bytes are read as
-abbrev pub same : List ℕ → List ℕ → Bool
-same [] [] = true
-same [] (y ∷ ys) = false
-same (x ∷ xs) [] = false
-same (x ∷ xs) (y ∷ ys) = eqb x y && same xs ys
+-- ---- whether bytes are a record: there are enough of them, they are of this version, counts are within the places, and each word of a part fits its field. A clock,
+-- a credit and an instant take any word.
+abbrev pub fitsU16 : ℕ → Bool
+fitsU16 w = leb w 65535
 
--- Bytes are a record if they are the bytes of the port that their words name. Then there are 3576 of them and every word fits its field: a class, a known mark or a
--- wire tag above 1, a number above what its field can hold, and a word behind a tag of 0 that is not 0 come back as another word. A count takes any word.
-unfoldable pub readRecord : List ℕ → Reading
-readRecord s = record { readable = same s (recordBytes (portOf s)); port = portOf s }
+abbrev pub fitsU32 : ℕ → Bool
+fitsU32 w = leb w 4294967295
+
+-- A class or a mark.
+abbrev pub fitsMark : ℕ → Bool
+fitsMark w = leb w 1
+
+unfoldable pub headFits : List ℕ → Bool
+headFits s = (eqb (wordAt s headStart) version && leb (wordAt s countPlace) mostRows) && ((fitsU32 (wordAt s 1) && fitsU32 (wordAt s 2)) && fitsU16 (wordAt s 3))
+
+abbrev pub rowFits : List ℕ → ℕ → Bool
+rowFits s k = (fitsMark (wordAt s k) && fitsU16 (wordAt s (k + 1))) && (fitsU32 (wordAt s (k + 2)) && fitsU32 (wordAt s (k + 3)))
+
+abbrev pub frameFits : List ℕ → ℕ → Bool
+frameFits s k = fitsU32 (wordAt s k) && fitsU32 (wordAt s (k + 1))
+
+abbrev pub lastFits : List ℕ → ℕ → Bool
+lastFits s k = fitsMark (wordAt s k)
+
+unfoldable pub wireFits : List ℕ → ℕ → Bool
+wireFits s k = cond (eqb (wordAt s k) 1) (frameFits s (k + 1) && fitsU32 (wordAt s (k + 4))) (eqb (wordAt s k) 0)
+
+-- n things, the first at the word of number k.
+unfoldable pub each : (ℕ → Bool) → ℕ → ℕ → ℕ → Bool
+each ok size k zero = true
+each ok size k (suc n) = ok k && each ok size (k + size) n
+
+unfoldable pub queueFits : List ℕ → ℕ → ℕ → Bool
+queueFits s k places = leb (wordAt s k) places && each (frameFits s) frameWidth (k + 1) (wordAt s k)
+
+abbrev pub recordTests : List ℕ → List Bool
+recordTests s =
+    leb recordSize (length s)
+    ∷ headFits s
+    ∷ each (rowFits s) rowWidth rowsStart (wordAt s countPlace)
+    ∷ queueFits s queueaStart classPlaces
+    ∷ queueFits s queuebStart classPlaces
+    ∷ queueFits s bestStart bestPlaces
+    ∷ each (lastFits s) lastWidth lastStart (wordAt s countPlace)
+    ∷ wireFits s wireStart
+    ∷ []
+
+unfoldable pub isRecord : List ℕ → Bool
+isRecord s = allTrue (recordTests s)

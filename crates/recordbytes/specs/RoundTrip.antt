@@ -1,29 +1,40 @@
 -- Reading and writing a record undo each other: the theorems' statements.
-use Prim.Native.Nat.{ℕ, _<_}
+use Prim.Native.Nat.{ℕ, _≤_}
 use mathlib.Core.Bool.{true}
 use mathlib.Core.List.{List}
 use mathlib.Core.Path.{_≡_}
-use lib.ListN.{length}
-use Rattle.machine.specs.declared.Port.{Port}
+use lib.ListN.{length, getD}
+use Rattle.machine.specs.State.{State, view}
+use Rattle.words.specs.Words.{Bytes}
 use Rattle.recordbytes.specs.Layout.{recordSize}
-use Rattle.recordbytes.specs.Record.{recordBytes, readRecord}
-use Rattle.recordbytes.specs.Fits.{Every, Fits}
+use Rattle.recordbytes.specs.Record.{recordOver, stateOf, isRecord}
+use Rattle.recordbytes.specs.Fits.{Placed, Fits}
+use Rattle.recordbytes.specs.Port.{portFrom}
 
--- A list of bytes: each of its numbers is below 256.
-abbrev pub Bytes : List ℕ → Type 0
-Bytes s = Every (λ b. b < 256) s
+-- A port written over any bytes that are long enough is read back: so for every port that fits, whatever the bytes held.
+pub record ReadBack (p : State) (s : List ℕ) : Type 0 where
+  pub record-bytes : isRecord (recordOver p s) ≡ true
+  pub port : stateOf (recordOver p s) ≡ p
 
--- Writing a record and reading it back gives the record: so for every port whose fields fit their types, whatever they say.
 abbrev pub ReadingWritten : Type 0
-ReadingWritten = (p : Port) → Fits p → readRecord (recordBytes p) ≡ record { readable = true; port = p }
+ReadingWritten = (p : State) (s : List ℕ) → Fits p → recordSize ≤ length s → ReadBack p s
 
--- Writing what was read gives the same bytes, to the last.
+-- What was read, written over the same bytes, leaves them as they are, to the last.
 abbrev pub WritingRead : Type 0
-WritingRead = (s : List ℕ) → readRecord s .readable ≡ true → recordBytes (readRecord s .port) ≡ s
+WritingRead = (s : List ℕ) → Bytes s → isRecord s ≡ true → recordOver (stateOf s) s ≡ s
 
--- The port that bytes name fits, and bytes that are a record are 3576: so the records are exactly the bytes of the ports that fit.
+-- The port that a record's bytes name fits: so the ports that records hold are exactly those that fit.
 abbrev pub ReadFits : Type 0
-ReadFits = (s : List ℕ) → Bytes s → Fits (readRecord s .port)
+ReadFits = (s : List ℕ) → Bytes s → isRecord s ≡ true → Fits (stateOf s)
 
-abbrev pub RecordSize : Type 0
-RecordSize = (s : List ℕ) → readRecord s .readable ≡ true → length s ≡ recordSize
+-- Writing keeps the bytes' number, and each byte behind the record.
+pub record Kept (p : State) (s : List ℕ) : Type 0 where
+  pub size : length (recordOver p s) ≡ length s
+  pub behind : (i : ℕ) → recordSize ≤ i → getD (recordOver p s) i 0 ≡ getD s i 0
+
+abbrev pub BehindKept : Type 0
+BehindKept = (p : State) (s : List ℕ) → Kept p s
+
+-- The port record that is handed out has the parts that the bytes name.
+abbrev pub SameParts : Type 0
+SameParts = (p : State) → Placed p → view (portFrom p) ≡ p

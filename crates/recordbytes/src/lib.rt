@@ -1,26 +1,29 @@
 // A port record as bytes: where its words stand, and what bytes are read as. specs/Layout.antt has the same numbers.
 
-// The first word of each part.
-pub const TABLE_START: usize = 0;
+// The version of the layout.
+pub const VERSION: u64 = 1_000_001;
 
-pub const CLOCK_START: usize = 132;
+// The first word of each part, and of the header the row count's.
+pub const HEAD_START: usize = 0;
 
-pub const CREDITA_START: usize = 133;
+pub const COUNT_PLACE: usize = 4;
 
-pub const CREDITB_START: usize = 134;
+pub const ROWS_START: usize = 5;
 
-pub const QUEUEA_START: usize = 135;
+pub const CLOCK_START: usize = 133;
 
-pub const QUEUEB_START: usize = 232;
+pub const QUEUEA_START: usize = 136;
 
-pub const BEST_START: usize = 329;
+pub const QUEUEB_START: usize = 233;
 
-pub const LAST_START: usize = 378;
+pub const BEST_START: usize = 330;
 
-pub const WIRE_START: usize = 442;
+pub const LAST_START: usize = 379;
+
+pub const WIRE_START: usize = 443;
 
 // The bytes of a record.
-pub const RECORD_SIZE: usize = 3576;
+pub const RECORD_SIZE: usize = 3584;
 
 // What bytes are read as: whether they are a record, and the port that their words name.
 pub struct Reading {

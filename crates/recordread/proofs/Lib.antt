@@ -1,3 +1,3 @@
 -- Laws that belong to no one function.
-mod Gathered
+mod Tests
 mod Named

@@ -1,2 +1,3 @@
-// Port records read from bytes.
+// A port record from bytes.
+mod fits;
 pub mod read;

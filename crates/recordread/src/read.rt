@@ -1,11 +1,18 @@
-// A port record from bytes.
+// The port that a record's bytes name.
 ghost use mathlib.Core.Path.{_≡_};
+ghost use mathlib.Core.Bool.{true};
+ghost use mathlib.Core.List.{map};
 ghost use Prim.Native.Nat.{_+_, _*_, _≤_};
+ghost use lib.ListN.{length};
 ghost use Rattle.table.specs.Limits.{mostRows};
+ghost use Rattle.table.specs.Rows.{noRow};
 ghost use Rattle.machine.specs.Limits.{classPlaces, bestPlaces};
-ghost use Rattle.recordbytes.specs.Layout.{rowWidth, frameWidth, lastWidth, tableWidth, queueWidth, bestWidth, lastsWidth, wireWidth, recordWidth};
-ghost use Rattle.recordbytes.specs.Record.{u16Of, u32Of, classOf, signedOf, rowAt, frameAt, lastAt, gathered};
-ghost use Rattle.recordbytes.specs.Record.{tableAt, queueAt, bestAt, wireAt, portOf, readRecord};
+ghost use Rattle.machine.specs.State.{zeroFrame, zeroLast};
+ghost use Rattle.words.specs.Words.{wordAt, gathered};
+ghost use Rattle.recordbytes.specs.Layout.{rowsStart, lastStart, wireStart, rowWidth, frameWidth, lastWidth, recordWidth};
+ghost use Rattle.recordbytes.specs.Record.{u16Of, u32Of, classOf, signedOf, rowAt, frameAt, instantAt, queueAt, wireAt, stateOf, isRecord};
+ghost use Rattle.recordbytes.specs.Port.{placed, tableFrom, lastOf, portFrom, nothing, readRecord};
+use crate::fits::is_record;
 use machine::BEST_PLACES;
 use machine::BestQueue;
 use machine::CLASS_PLACES;
@@ -16,16 +23,13 @@ use machine::Queue;
 use machine::Wire;
 use recordbytes::BEST_START;
 use recordbytes::CLOCK_START;
-use recordbytes::CREDITA_START;
-use recordbytes::CREDITB_START;
+use recordbytes::COUNT_PLACE;
 use recordbytes::LAST_START;
 use recordbytes::QUEUEA_START;
 use recordbytes::QUEUEB_START;
-use recordbytes::RECORD_SIZE;
+use recordbytes::ROWS_START;
 use recordbytes::Reading;
-use recordbytes::TABLE_START;
 use recordbytes::WIRE_START;
-use recordwrite::write::write_record;
 use table::Class;
 use table::Header;
 use table::ROWS;
@@ -88,134 +92,174 @@ fn frame_at(s: &[u8], k: usize) -> Frame
     }
 }
 
+// A row's last instant, zeros where it has none.
 fn last_at(s: &[u8], k: usize) -> Last
     requires { ⌜ k + lastWidth ≤ recordWidth ⌝ }
-    ensures { λ r. ⌜ r ≡ lastAt (now (s .entry)) k ⌝ }
+    ensures { λ r. ⌜ r ≡ lastOf (instantAt (now (s .entry)) k) ⌝ }
 {
-    Last {
-        known: word(s, k) == 1,
-        taken: word(s, k + 1),
+    if word(s, k) == 1 {
+        return Last {
+            known: true,
+            taken: word(s, k + 1),
+        };
+    }
+    zero_last()
+}
+
+// What a place holds that belongs to no part.
+fn zero_row() -> Row
+    ensures { λ r. ⌜ r ≡ noRow ⌝ }
+{
+    Row {
+        class: Class::A,
+        payload: 0,
+        period: 0,
+        deadline: 0,
     }
 }
 
-fn rows_at(s: &[u8], k: usize) -> [Row; ROWS]
-    requires { ⌜ k + rowWidth * mostRows ≤ recordWidth ⌝ }
-    ensures { λ r. ⌜ r ≡ gathered (rowAt (now (s .entry))) rowWidth k mostRows ⌝ }
+fn zero_frame() -> Frame
+    ensures { λ r. ⌜ r ≡ zeroFrame ⌝ }
 {
-    let first = row_at(s, k);
-    let mut rows = [first; ROWS];
-    let mut i: usize = 1;
-    while i < ROWS {
-        rows[i] = row_at(s, k + 4 * i);
+    Frame {
+        source: 0,
+        size: 0,
+        taken: 0,
+    }
+}
+
+fn zero_last() -> Last
+    ensures { λ r. ⌜ r ≡ zeroLast ⌝ }
+{
+    Last {
+        known: false,
+        taken: 0,
+    }
+}
+
+// The rows of a table, zeros behind the last one.
+fn rows_at(s: &[u8], n: usize) -> [Row; ROWS]
+    requires { ⌜ n ≤ mostRows ⌝ }
+    ensures { λ r. ⌜ r ≡ placed mostRows noRow (gathered (rowAt (now (s .entry))) rowWidth rowsStart n) ⌝ }
+{
+    let mut rows = [zero_row(); ROWS];
+    let mut i: usize = 0;
+    while i < n {
+        rows[i] = row_at(s, ROWS_START + 4 * i);
         i += 1;
     }
     rows
 }
 
-fn frames_at(s: &[u8], k: usize) -> [Frame; CLASS_PLACES]
-    requires { ⌜ k + frameWidth * classPlaces ≤ recordWidth ⌝ }
-    ensures { λ r. ⌜ r ≡ gathered (frameAt (now (s .entry))) frameWidth k classPlaces ⌝ }
+fn table_at(s: &[u8]) -> Table
+    requires { ⌜ wordAt (now s) 4 ≤ mostRows ⌝ }
+    ensures { λ r. ⌜ r ≡ tableFrom (stateOf (now (s .entry)) .table) ⌝ }
 {
-    let first = frame_at(s, k);
-    let mut frames = [first; CLASS_PLACES];
-    let mut i: usize = 1;
-    while i < CLASS_PLACES {
+    let count = word(s, COUNT_PLACE) as usize;
+    let rows = rows_at(s, count);
+    let header = Header {
+        idlea: u32_of(word(s, 1)),
+        idleb: u32_of(word(s, 2)),
+        payload: u16_of(word(s, 3)),
+    };
+    Table {
+        header,
+        count,
+        rows,
+    }
+}
+
+// The frames of a class that wait, zeros behind the last one.
+fn frames_at(s: &[u8], k: usize, n: usize) -> [Frame; CLASS_PLACES]
+    requires { ⌜ n ≤ classPlaces ⌝ }
+    requires { ⌜ k + frameWidth * n ≤ recordWidth ⌝ }
+    ensures { λ r. ⌜ r ≡ placed classPlaces zeroFrame (gathered (frameAt (now (s .entry))) frameWidth k n) ⌝ }
+{
+    let mut frames = [zero_frame(); CLASS_PLACES];
+    let mut i: usize = 0;
+    while i < n {
         frames[i] = frame_at(s, k + 3 * i);
         i += 1;
     }
     frames
 }
 
-fn best_frames_at(s: &[u8], k: usize) -> [Frame; BEST_PLACES]
-    requires { ⌜ k + frameWidth * bestPlaces ≤ recordWidth ⌝ }
-    ensures { λ r. ⌜ r ≡ gathered (frameAt (now (s .entry))) frameWidth k bestPlaces ⌝ }
+// The best-effort frames that wait.
+fn best_frames_at(s: &[u8], k: usize, n: usize) -> [Frame; BEST_PLACES]
+    requires { ⌜ n ≤ bestPlaces ⌝ }
+    requires { ⌜ k + frameWidth * n ≤ recordWidth ⌝ }
+    ensures { λ r. ⌜ r ≡ placed bestPlaces zeroFrame (gathered (frameAt (now (s .entry))) frameWidth k n) ⌝ }
 {
-    let first = frame_at(s, k);
-    let mut frames = [first; BEST_PLACES];
-    let mut i: usize = 1;
-    while i < BEST_PLACES {
+    let mut frames = [zero_frame(); BEST_PLACES];
+    let mut i: usize = 0;
+    while i < n {
         frames[i] = frame_at(s, k + 3 * i);
         i += 1;
     }
     frames
 }
 
-fn lasts_at(s: &[u8], k: usize) -> [Last; ROWS]
-    requires { ⌜ k + lastsWidth ≤ recordWidth ⌝ }
-    ensures { λ r. ⌜ r ≡ gathered (lastAt (now (s .entry))) lastWidth k mostRows ⌝ }
+fn queue_at(s: &[u8], k: usize) -> Queue
+    requires { ⌜ wordAt (now s) k ≤ classPlaces ⌝ }
+    requires { ⌜ k + 1 + frameWidth * classPlaces ≤ recordWidth ⌝ }
+    ensures { λ r. ⌜ r ≡ record { count = length (queueAt (now (s .entry)) k); frames = placed classPlaces zeroFrame (queueAt (now (s .entry)) k) } ⌝ }
 {
-    let first = last_at(s, k);
-    let mut lasts = [first; ROWS];
-    let mut i: usize = 1;
-    while i < ROWS {
-        lasts[i] = last_at(s, k + 2 * i);
+    let count = word(s, k) as usize;
+    let frames = frames_at(s, k + 1, count);
+    Queue { count, frames }
+}
+
+fn best_at(s: &[u8], k: usize) -> BestQueue
+    requires { ⌜ wordAt (now s) k ≤ bestPlaces ⌝ }
+    requires { ⌜ k + 1 + frameWidth * bestPlaces ≤ recordWidth ⌝ }
+    ensures { λ r. ⌜ r ≡ record { count = length (queueAt (now (s .entry)) k); frames = placed bestPlaces zeroFrame (queueAt (now (s .entry)) k) } ⌝ }
+{
+    let count = word(s, k) as usize;
+    let frames = best_frames_at(s, k + 1, count);
+    BestQueue { count, frames }
+}
+
+// The instants of the first n rows, zeros behind them.
+fn lasts_at(s: &[u8], n: usize) -> [Last; ROWS]
+    requires { ⌜ n ≤ mostRows ⌝ }
+    ensures { λ r. ⌜ r ≡ placed mostRows zeroLast (map lastOf (gathered (instantAt (now (s .entry))) lastWidth lastStart n)) ⌝ }
+{
+    let mut lasts = [zero_last(); ROWS];
+    let mut i: usize = 0;
+    while i < n {
+        lasts[i] = last_at(s, LAST_START + 2 * i);
         i += 1;
     }
     lasts
 }
 
-fn table_at(s: &[u8], k: usize) -> Table
-    requires { ⌜ k + tableWidth ≤ recordWidth ⌝ }
-    ensures { λ r. ⌜ r ≡ tableAt (now (s .entry)) k ⌝ }
+fn wire_at(s: &[u8]) -> Wire
+    ensures { λ r. ⌜ r ≡ wireAt (now (s .entry)) wireStart ⌝ }
 {
-    let rows = rows_at(s, k + 4);
-    let header = Header {
-        idlea: u32_of(word(s, k)),
-        idleb: u32_of(word(s, k + 1)),
-        payload: u16_of(word(s, k + 2)),
-    };
-    Table {
-        header,
-        count: word(s, k + 3) as usize,
-        rows,
+    if word(s, WIRE_START) == 1 {
+        let frame = frame_at(s, WIRE_START + 1);
+        let left = u32_of(word(s, WIRE_START + 4));
+        return Wire::Sending(frame, left);
     }
+    Wire::Free
 }
 
-fn queue_at(s: &[u8], k: usize) -> Queue
-    requires { ⌜ k + queueWidth ≤ recordWidth ⌝ }
-    ensures { λ r. ⌜ r ≡ queueAt (now (s .entry)) k ⌝ }
-{
-    let frames = frames_at(s, k + 1);
-    let count = word(s, k) as usize;
-    Queue { count, frames }
-}
-
-fn best_at(s: &[u8], k: usize) -> BestQueue
-    requires { ⌜ k + bestWidth ≤ recordWidth ⌝ }
-    ensures { λ r. ⌜ r ≡ bestAt (now (s .entry)) k ⌝ }
-{
-    let frames = best_frames_at(s, k + 1);
-    let count = word(s, k) as usize;
-    BestQueue { count, frames }
-}
-
-fn wire_at(s: &[u8], k: usize) -> Wire
-    requires { ⌜ k + wireWidth ≤ recordWidth ⌝ }
-    ensures { λ r. ⌜ r ≡ wireAt (now (s .entry)) k ⌝ }
-{
-    if word(s, k) == 0 {
-        return Wire::Free;
-    }
-    let frame = frame_at(s, k + 1);
-    let left = u32_of(word(s, k + 4));
-    Wire::Sending(frame, left)
-}
-
-// The port that the words of a record name.
+// The port that a record names.
 fn port_of(s: &[u8]) -> Port
-    ensures { λ r. ⌜ r ≡ portOf (now (s .entry)) ⌝ }
+    requires { ⌜ isRecord (now s) ≡ true ⌝ }
+    ensures { λ r. ⌜ r ≡ portFrom (stateOf (now (s .entry))) ⌝ }
 {
-    let table = table_at(s, TABLE_START);
+    let table = table_at(s);
     let a = queue_at(s, QUEUEA_START);
     let b = queue_at(s, QUEUEB_START);
     let best = best_at(s, BEST_START);
-    let last = lasts_at(s, LAST_START);
-    let wire = wire_at(s, WIRE_START);
+    let last = lasts_at(s, table.count);
+    let wire = wire_at(s);
     Port {
         table,
         clock: word(s, CLOCK_START),
-        credita: signed_of(word(s, CREDITA_START)),
-        creditb: signed_of(word(s, CREDITB_START)),
+        credita: signed_of(word(s, CLOCK_START + 1)),
+        creditb: signed_of(word(s, CLOCK_START + 2)),
         a,
         b,
         best,
@@ -224,13 +268,55 @@ fn port_of(s: &[u8]) -> Port
     }
 }
 
-// What bytes are read as. They are a record if writing the port that they name gives the same bytes.
+// A port of zeros.
+fn no_port() -> Port
+    ensures { λ r. ⌜ r ≡ portFrom nothing ⌝ }
+{
+    let header = Header {
+        idlea: 0,
+        idleb: 0,
+        payload: 0,
+    };
+    let queue = Queue {
+        count: 0,
+        frames: [zero_frame(); CLASS_PLACES],
+    };
+    let best = BestQueue {
+        count: 0,
+        frames: [zero_frame(); BEST_PLACES],
+    };
+    let table = Table {
+        header,
+        count: 0,
+        rows: [zero_row(); ROWS],
+    };
+    Port {
+        table,
+        clock: 0,
+        credita: 0,
+        creditb: 0,
+        a: queue,
+        b: queue,
+        best,
+        last: [zero_last(); ROWS],
+        wire: Wire::Free,
+    }
+}
+
+// What bytes are read as: at least as many as a record's, whose words fit, are a record. For others a port of zeros is handed out.
 pub fn read_record(bytes: &[u8]) -> Reading
     ensures { λ r. ⌜ r ≡ readRecord (now (bytes .entry)) ⌝ }
 {
-    let port = port_of(bytes);
-    let mut own = [0u8; RECORD_SIZE];
-    write_record(&mut own, port);
-    let readable = check::same(bytes, &own);
-    Reading { readable, port }
+    if is_record(bytes) {
+        let port = port_of(bytes);
+        return Reading {
+            readable: true,
+            port,
+        };
+    }
+    let port = no_port();
+    Reading {
+        readable: false,
+        port,
+    }
 }

@@ -1,78 +1,114 @@
 -- The words of a port's parts, stored one behind the other.
-use Prim.Native.Nat.{ℕ, _+_, _*_, _≤_, _<_}
-use mathlib.Core.List.{List, [], _∷_, _++_}
-use mathlib.Core.Path.{_≡_, refl, sym, _∙_}
+use Prim.Native.Nat.{ℕ, suc, zero, _+_, _-_, _*_, _≤_, _<_, min}
+use mathlib.Core.Bool.{Bool, true, false}
+use mathlib.Core.List.{List, [], _∷_, _++_, map, append-nil}
+use mathlib.Core.Path.{_≡_, refl, sym, _∙_, ap}
 use native.Mathlib.Omega.{arith}
-use lib.ListN.{length, drop}
-use borrow.Author.Tests.{le-leb, lt-leb}
+use lib.Dec.{leb}
+use lib.IntN.{ℤ}
+use lib.ListN.{length, take, replicate, length-take, length-map}
+use lib.Seq.{take-all, take-at}
+use borrow.Author.Tests.{le-leb, lt-leb, leb-true, leb-false}
 use Rattle.table.specs.declared.Row.{Row}
 use Rattle.table.specs.declared.Table.{Table}
+use Rattle.table.specs.Limits.{mostRows}
+use Rattle.table.specs.Rows.{noRow, rowsOf, contents}
+use Rattle.table.proofs.Laws.{rows-length}
 use Rattle.machine.specs.declared.Frame.{Frame}
 use Rattle.machine.specs.declared.Wire.{Wire}
 use Rattle.machine.specs.declared.Wire.the-variants.{Free, Sending}
-use Rattle.machine.specs.declared.Queue.{Queue}
-use Rattle.machine.specs.declared.BestQueue.{BestQueue}
 use Rattle.machine.specs.declared.Last.{Last}
 use Rattle.machine.specs.declared.Port.{Port}
-use Rattle.words.specs.Words.{flat, stored}
-use Rattle.words.proofs.Laws.{stored-front, more, two, three, four}
-use Rattle.recordbytes.specs.Layout.{tableStart, clockStart, queueaStart, queuebStart, bestStart, lastStart, wireStart, recordSize}
-use Rattle.machine.specs.State.{Places}
-use Rattle.recordbytes.specs.Record.{classWord, boolWord, signedWord, rowWords, frameWords, lastWords, tableWords, numberWords, queueWords, bestWords, wireWords, recordWords, recordBytes}
-use Rattle.recordbytes.proofs.Laws.{table-length, a-length, b-length, best-length, last-length, record-length}
+use Rattle.machine.specs.Limits.{classPlaces, bestPlaces}
+use Rattle.machine.specs.State.{never, noFrame, waiting, instantOf, instantsOf, view}
+use Rattle.machine.proofs.Places.{waiting-length}
+use Rattle.words.specs.Words.{stored, spread}
+use Rattle.words.proofs.Laws.{more, two, three, four}
+use Rattle.recordbytes.specs.Layout.{version, headStart, rowsStart, clockStart, queueaStart, queuebStart, bestStart, lastStart, wireStart, rowWidth, frameWidth, lastWidth, recordSize}
+use Rattle.recordbytes.specs.Record.{classWord, signedWord, headWords, rowWords, frameWords, lastWords, wireWords, tableOver, queueOver, recordOver}
 use Rattle.recordwrite.specs.Written.{written}
 
 module _ (s : List ℕ) (k : ℕ) where
   pub row-put : (r : Row) {w : ℕ} {l t u v : List ℕ} → w ≡ classWord (r .class) → l ≡ stored s k (w ∷ []) → t ≡ stored l (k + 1) (r .payload ∷ []) → u ≡ stored t (k + 2) (r .period ∷ []) → v ≡ stored u (k + 3) (r .deadline ∷ []) → v ≡ stored s k (rowWords r)
   row-put r {w} z e f g h = rw z at (four s k w (r .payload) (r .period) (r .deadline) e f g h)
 
-  pub frame-put : (x : Frame) {l t u : List ℕ} → l ≡ stored s k (x .source ∷ []) → t ≡ stored l (k + 1) (x .size ∷ []) → u ≡ stored t (k + 2) (x .taken ∷ []) → u ≡ stored s k (frameWords x)
-  frame-put x e f g = three s k (x .source) (x .size) (x .taken) e f g
+  pub known-put : (x : Last) {l t : List ℕ} → x .known ≡ true → l ≡ stored s k (1 ∷ []) → t ≡ stored l (k + 1) (x .taken ∷ []) → t ≡ stored s k (lastWords (instantOf x))
+  known-put x z e f = rw z (two s k 1 (x .taken) e f)
 
-  pub last-put : (x : Last) {w : ℕ} {l t : List ℕ} → w ≡ boolWord (x .known) → l ≡ stored s k (w ∷ []) → t ≡ stored l (k + 1) (x .taken ∷ []) → t ≡ stored s k (lastWords x)
-  last-put x {w} z e f = rw z at (two s k w (x .taken) e f)
+  pub unknown-put : (x : Last) {t : List ℕ} → x .known ≡ false → t ≡ stored s k (0 ∷ []) → t ≡ stored s k (lastWords (instantOf x))
+  unknown-put x z e = rw z e
 
-  pub table-put : (x : Table) {l t u v z : List ℕ} → l ≡ stored s k (x .header .idlea ∷ []) → t ≡ stored l (k + 1) (x .header .idleb ∷ []) → u ≡ stored t (k + 2) (x .header .payload ∷ []) → v ≡ stored u (k + 3) (x .count ∷ []) → z ≡ stored v (k + 4) (flat rowWords (x .rows)) → z ≡ stored s k (tableWords x)
-  table-put x e f g h i = more s k (x .header .idlea ∷ x .header .idleb ∷ x .header .payload ∷ x .count ∷ []) (flat rowWords (x .rows)) (four s k (x .header .idlea) (x .header .idleb) (x .header .payload) (x .count) e f g h) refl i
-
-  pub numbers-put : (p : Port) {a b : ℕ} {l t u : List ℕ} → a ≡ signedWord (p .credita) → b ≡ signedWord (p .creditb) → l ≡ stored s k (p .clock ∷ []) → t ≡ stored l (k + 1) (a ∷ []) → u ≡ stored t (k + 2) (b ∷ []) → u ≡ stored s k (numberWords p)
-  numbers-put p {a} {b} x y e f g = rw (x, y) at (three s k (p .clock) a b e f g)
-
-  pub queue-put : (q : Queue) {l t : List ℕ} → l ≡ stored s k (q .count ∷ []) → t ≡ stored l (k + 1) (flat frameWords (q .frames)) → t ≡ stored s k (queueWords q)
-  queue-put q e f = more s k (q .count ∷ []) (flat frameWords (q .frames)) e refl f
-
-  pub best-put : (q : BestQueue) {l t : List ℕ} → l ≡ stored s k (q .count ∷ []) → t ≡ stored l (k + 1) (flat frameWords (q .frames)) → t ≡ stored s k (bestWords q)
-  best-put q e f = more s k (q .count ∷ []) (flat frameWords (q .frames)) e refl f
-
-  pub free-put : {w : Wire} {l t u v z : List ℕ} → w ≡ Free → l ≡ stored s k (0 ∷ []) → t ≡ stored l (k + 1) (0 ∷ []) → u ≡ stored t (k + 2) (0 ∷ []) → v ≡ stored u (k + 3) (0 ∷ []) → z ≡ stored v (k + 4) (0 ∷ []) → z ≡ stored s k (wireWords w)
-  free-put x e f g h i = rw x (more s k (0 ∷ 0 ∷ 0 ∷ 0 ∷ []) (0 ∷ []) (four s k 0 0 0 0 e f g h) refl i)
+  pub free-put : {w : Wire} {t : List ℕ} → w ≡ Free → t ≡ stored s k (0 ∷ []) → t ≡ stored s k (wireWords w)
+  free-put z e = rw z e
 
   pub sending-put : {w : Wire} {x : Frame} {left : ℕ} {l t u : List ℕ} → w ≡ Sending x left → l ≡ stored s k (1 ∷ []) → t ≡ stored l (k + 1) (frameWords x) → u ≡ stored t (k + 4) (left ∷ []) → u ≡ stored s k (wireWords w)
   sending-put {x = x} {left = left} z e f g = rw z (more s k (1 ∷ frameWords x) (left ∷ []) (more s k (1 ∷ []) (frameWords x) e refl f) refl g)
 
+pub head-put : (s : List ℕ) (x : Table) {l t u v z : List ℕ} → l ≡ stored s headStart (version ∷ []) → t ≡ stored l (headStart + 1) (x .header .idlea ∷ []) → u ≡ stored t (headStart + 2) (x .header .idleb ∷ []) → v ≡ stored u (headStart + 3) (x .header .payload ∷ []) → z ≡ stored v (headStart + 4) (x .count ∷ []) → z ≡ stored s headStart (headWords (contents x))
+head-put s x e f g h i =
+    let words = version ∷ x .header .idlea ∷ x .header .idleb ∷ x .header .payload ∷ [] in
+    rw (rows-length x) (more s headStart words (x .count ∷ []) (four s headStart version (x .header .idlea) (x .header .idleb) (x .header .payload) e f g h) refl i)
+
+-- ---- as many things as have a place
+module _ {X : Type 0} (d : X) (n places : ℕ) (xs : List X) (long : length xs ≡ places) where
+  pub in-places : take (min n places) xs ≡ take places (take n xs ++ replicate (n - length xs) d)
+  in-places = go (leb n places) refl
+    where
+      go : (b : Bool) → leb n places ≡ b → take (min n places) xs ≡ take places (take n xs ++ replicate (n - length xs) d)
+      go true e =
+          let h : n ≤ places = leb-true n places e in
+          let none : n - length xs ≡ 0 = omega arith in
+          let least : min n places ≡ n = omega arith in
+          rw (none, append-nil, least) (sym (take-all places (take n xs) (rw length-take (omega arith))))
+      go false e =
+          let h : places < n = leb-false n places e in
+          let least : min n places ≡ places = omega arith in
+          rw (take-all n xs (omega arith), least) (take-all places xs (omega arith) ∙ sym (take-at xs (replicate (n - length xs) d) places long))
+
+pub rows-placed : (t : Table) → length (t .rows) ≡ mostRows → take (min (t .count) mostRows) (t .rows) ≡ take mostRows (rowsOf t)
+unfolding rowsOf
+rows-placed t long = in-places noRow (t .count) mostRows (t .rows) long
+
+take-map : {X Y : Type 0} (f : X → Y) (n : ℕ) (xs : List X) → take n (map f xs) ≡ map f (take n xs)
+take-map f zero xs = refl
+take-map f (suc n) [] = refl
+take-map {Y = Y} f (suc n) (x ∷ xs) = ap (λ (ys : List Y). f x ∷ ys) (take-map f n xs)
+
+spread-map : {X Y : Type 0} (f : Y → List ℕ) (g : X → Y) (size k : ℕ) (xs : List X) (s : List ℕ) → spread (λ x. f (g x)) size k xs s ≡ spread f size k (map g xs) s
+unfolding spread
+spread-map f g size k [] s = refl
+spread-map f g size k (x ∷ xs) s = spread-map f g size (k + size) xs (stored s k (f (g x)))
+
+-- the words of a row's last instant
+abbrev pub instantWords : Last → List ℕ
+instantWords l = lastWords (instantOf l)
+
+pub lasts-put : (n : ℕ) (ls : List Last) (s : List ℕ) {t : List ℕ} → length ls ≡ mostRows → t ≡ spread instantWords lastWidth lastStart (take (min n mostRows) ls) s → t ≡ spread lastWords lastWidth lastStart (take mostRows (instantsOf n ls)) s
+lasts-put n ls s long e =
+    let m : length (map instantOf ls) ≡ length ls = length-map ls instantOf in
+    let p : take (min n mostRows) (map instantOf ls) ≡ take mostRows (take n (map instantOf ls) ++ replicate (n - length (map instantOf ls)) never) = in-places never n mostRows (map instantOf ls) (m ∙ long) in
+    let q : map instantOf (take (min n mostRows) ls) ≡ take mostRows (instantsOf n ls) = sym (take-map instantOf (min n mostRows) ls) ∙ p ∙ rw (take-map instantOf n ls, m) refl in
+    e ∙ spread-map lastWords instantOf lastWidth lastStart (take (min n mostRows) ls) s ∙ rw q refl
+
+pub table-put : (t : Table) (s : List ℕ) {l u : List ℕ} → l ≡ stored s headStart (headWords (contents t)) → u ≡ spread rowWords rowWidth rowsStart (take mostRows (rowsOf t)) l → u ≡ tableOver (contents t) s
+unfolding tableOver
+table-put t s e f = f ∙ rw e refl
+
+pub queue-put : (k places n : ℕ) (fs : List Frame) (s : List ℕ) {t u : List ℕ} → length fs ≡ places → t ≡ stored s k (n ∷ []) → u ≡ spread frameWords frameWidth (k + 1) (take (min n places) fs) t → u ≡ queueOver k places (waiting n fs) s
+unfolding queueOver
+queue-put k places n fs s long e f = f ∙ rw (e, in-places noFrame n places fs long, waiting-length n fs) refl
+
+-- ---- the whole record
 pub no-room : (s : List ℕ) (p : Port) → length s < recordSize → s ≡ written p s
 unfolding written
 no-room s p h = rw (lt-leb recordSize (length s) h) refl
 
--- the law for a buffer that is long enough
-pub written-fits : (s : List ℕ) (p : Port) → recordSize ≤ length s → written p s ≡ recordBytes p ++ drop recordSize s
+pub written-fits : (s : List ℕ) (p : Port) → recordSize ≤ length s → written p s ≡ recordOver (view p) s
 unfolding written
 written-fits s p h = rw (le-leb recordSize (length s) h) refl
 
-pub record-put : (s : List ℕ) (p : Port) → Places p → recordSize ≤ length s → {l t u v x y z : List ℕ} → l ≡ stored s tableStart (tableWords (p .table)) → t ≡ stored l clockStart (numberWords p) → u ≡ stored t queueaStart (queueWords (p .a)) → v ≡ stored u queuebStart (queueWords (p .b)) → x ≡ stored v bestStart (bestWords (p .best)) → y ≡ stored x lastStart (flat lastWords (p .last)) → z ≡ stored y wireStart (wireWords (p .wire)) → z ≡ written p s
-unfolding recordBytes recordWords
-record-put s p n h {l} {t} {u} {v} {x} {y} {z} e1 e2 e3 e4 e5 e6 e7 =
-    let w6 = flat lastWords (p .last) ++ wireWords (p .wire) in
-    let w5 = bestWords (p .best) ++ w6 in
-    let w4 = queueWords (p .b) ++ w5 in
-    let w3 = queueWords (p .a) ++ w4 in
-    let w2 = numberWords p ++ w3 in
-    let x6 : z ≡ stored x lastStart w6 = more x lastStart (flat lastWords (p .last)) (wireWords (p .wire)) e6 (omega (arith, last-length p n)) e7 in
-    let x5 : z ≡ stored v bestStart w5 = more v bestStart (bestWords (p .best)) w6 e5 (omega (arith, best-length p n)) x6 in
-    let x4 : z ≡ stored u queuebStart w4 = more u queuebStart (queueWords (p .b)) w5 e4 (omega (arith, b-length p n)) x5 in
-    let x3 : z ≡ stored t queueaStart w3 = more t queueaStart (queueWords (p .a)) w4 e3 (omega (arith, a-length p n)) x4 in
-    let x2 : z ≡ stored l clockStart w2 = more l clockStart (numberWords p) w3 e2 refl x3 in
-    let x1 : z ≡ stored s tableStart (recordWords p) = more s tableStart (tableWords (p .table)) w2 e1 (omega (arith, table-length p n)) x2 in
-    let m : 8 * length (recordWords p) ≡ recordSize = rw (record-length p n) refl in
-    let front : stored s tableStart (recordWords p) ≡ recordBytes p ++ drop recordSize s = rw m at (stored-front s (recordWords p) (omega arith)) in
-    x1 ∙ front ∙ sym (written-fits s p h)
+pub record-put : (s : List ℕ) (p : Port) → recordSize ≤ length s → {b2 b3 b4 b5 b6 b7 b8 : List ℕ} → b2 ≡ tableOver (contents (p .table)) s
+    → b3 ≡ stored b2 clockStart (p .clock ∷ signedWord (p .credita) ∷ signedWord (p .creditb) ∷ []) → b4 ≡ queueOver queueaStart classPlaces (waiting (p .a .count) (p .a .frames)) b3 → b5 ≡ queueOver queuebStart classPlaces (waiting (p .b .count) (p .b .frames)) b4
+    → b6 ≡ queueOver bestStart bestPlaces (waiting (p .best .count) (p .best .frames)) b5 → b7 ≡ spread lastWords lastWidth lastStart (take mostRows (instantsOf (p .table .count) (p .last))) b6 → b8 ≡ stored b7 wireStart (wireWords (p .wire)) → b8 ≡ written p s
+unfolding recordOver view
+record-put s p h e2 e3 e4 e5 e6 e7 e8 = e8 ∙ rw (e7, e6, e5, e4, e3, e2) (sym (written-fits s p h))

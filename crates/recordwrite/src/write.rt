@@ -1,14 +1,15 @@
-// A port record into bytes.
+// A port's parts stored over a record's bytes. Words that belong to no part keep what they hold.
 ghost use mathlib.Core.Path.{_≡_};
 ghost use mathlib.Core.List.{[], _∷_};
-ghost use Prim.Native.Nat.{_+_, _*_, _≤_};
-ghost use lib.ListN.{length};
-ghost use Rattle.words.specs.Words.{flat, stored};
+ghost use Prim.Native.Nat.{_+_, _*_, _≤_, min};
+ghost use lib.ListN.{length, take};
+ghost use Rattle.words.specs.Words.{stored, spread};
 ghost use Rattle.table.specs.Limits.{mostRows};
+ghost use Rattle.table.specs.Rows.{rowsOf, contents};
 ghost use Rattle.machine.specs.Limits.{classPlaces, bestPlaces};
-ghost use Rattle.recordbytes.specs.Layout.{numbersWidth, rowWidth, frameWidth, lastWidth, tableWidth, queueWidth, bestWidth, lastsWidth, wireWidth, recordWidth};
-ghost use Rattle.recordbytes.specs.Record.{classWord, boolWord, signedWord, rowWords, frameWords, lastWords};
-ghost use Rattle.recordbytes.specs.Record.{tableWords, numberWords, queueWords, bestWords, wireWords};
+ghost use Rattle.machine.specs.State.{waiting, instantOf, instantsOf};
+ghost use Rattle.recordbytes.specs.Layout.{headStart, rowsStart, clockStart, lastStart, wireStart, rowWidth, frameWidth, lastWidth, recordSize};
+ghost use Rattle.recordbytes.specs.Record.{classWord, signedWord, headWords, rowWords, frameWords, lastWords, wireWords, tableOver, queueOver};
 ghost use Rattle.recordwrite.specs.Written.{written};
 use machine::BEST_PLACES;
 use machine::BestQueue;
@@ -20,11 +21,13 @@ use machine::Queue;
 use machine::Wire;
 use recordbytes::BEST_START;
 use recordbytes::CLOCK_START;
+use recordbytes::HEAD_START;
 use recordbytes::LAST_START;
 use recordbytes::QUEUEA_START;
 use recordbytes::QUEUEB_START;
 use recordbytes::RECORD_SIZE;
-use recordbytes::TABLE_START;
+use recordbytes::ROWS_START;
+use recordbytes::VERSION;
 use recordbytes::WIRE_START;
 use table::Class;
 use table::ROWS;
@@ -39,6 +42,13 @@ fn put_word(out: &mut [u8], k: usize, w: u64)
     words::words::put_word(out, k, w)
 }
 
+// How many of n things have a place.
+fn placed(n: usize, places: usize) -> usize
+    ensures { λ r. ⌜ r ≡ min n places ⌝ }
+{
+    if n < places { n } else { places }
+}
+
 fn class_word(class: Class) -> u64
     ensures { λ r. ⌜ r ≡ classWord class ⌝ }
 {
@@ -46,12 +56,6 @@ fn class_word(class: Class) -> u64
         Class::A => 0,
         Class::B => 1,
     }
-}
-
-fn bool_word(b: bool) -> u64
-    ensures { λ r. ⌜ r ≡ boolWord b ⌝ }
-{
-    if b { 1 } else { 0 }
 }
 
 // Two's complement.
@@ -64,8 +68,19 @@ fn signed_word(z: i64) -> u64
     18_446_744_073_709_551_615 - (-1 - z) as u64
 }
 
+// The version, the header and the row count.
+fn put_head(out: &mut [u8], t: Table)
+    requires { ⌜ recordSize ≤ length (now out) ⌝ }
+    ensures { λ _. ⌜ now (out .exit) ≡ stored (now (out .entry)) headStart (headWords (contents t)) ⌝ }
+{
+    put_word(out, HEAD_START, VERSION);
+    put_word(out, HEAD_START + 1, t.header.idlea as u64);
+    put_word(out, HEAD_START + 2, t.header.idleb as u64);
+    put_word(out, HEAD_START + 3, t.header.payload as u64);
+    put_word(out, HEAD_START + 4, t.count as u64);
+}
+
 fn put_row(out: &mut [u8], k: usize, row: Row)
-    requires { ⌜ k + rowWidth ≤ recordWidth ⌝ }
     requires { ⌜ 8 * (k + rowWidth) ≤ length (now out) ⌝ }
     ensures { λ _. ⌜ now (out .exit) ≡ stored (now (out .entry)) k (rowWords row) ⌝ }
 {
@@ -76,8 +91,37 @@ fn put_row(out: &mut [u8], k: usize, row: Row)
     put_word(out, k + 3, row.deadline as u64);
 }
 
+fn put_rows(out: &mut [u8], t: Table)
+    requires { ⌜ recordSize ≤ length (now out) ⌝ }
+    ensures { λ _. ⌜ now (out .exit) ≡ spread rowWords rowWidth rowsStart (take mostRows (rowsOf t)) (now (out .entry)) ⌝ }
+{
+    let n = placed(t.count, ROWS);
+    let mut i: usize = 0;
+    while i < n {
+        put_row(out, ROWS_START + 4 * i, t.rows[i]);
+        i += 1;
+    }
+}
+
+fn put_table(out: &mut [u8], t: Table)
+    requires { ⌜ recordSize ≤ length (now out) ⌝ }
+    ensures { λ _. ⌜ now (out .exit) ≡ tableOver (contents t) (now (out .entry)) ⌝ }
+{
+    put_head(out, t);
+    put_rows(out, t);
+}
+
+// The clock and the credits.
+fn put_numbers(out: &mut [u8], clock: u64, a: i64, b: i64)
+    requires { ⌜ recordSize ≤ length (now out) ⌝ }
+    ensures { λ _. ⌜ now (out .exit) ≡ stored (now (out .entry)) clockStart (clock ∷ signedWord a ∷ signedWord b ∷ []) ⌝ }
+{
+    put_word(out, CLOCK_START, clock);
+    put_word(out, CLOCK_START + 1, signed_word(a));
+    put_word(out, CLOCK_START + 2, signed_word(b));
+}
+
 fn put_frame(out: &mut [u8], k: usize, frame: Frame)
-    requires { ⌜ k + frameWidth ≤ recordWidth ⌝ }
     requires { ⌜ 8 * (k + frameWidth) ≤ length (now out) ⌝ }
     ensures { λ _. ⌜ now (out .exit) ≡ stored (now (out .entry)) k (frameWords frame) ⌝ }
 {
@@ -86,129 +130,75 @@ fn put_frame(out: &mut [u8], k: usize, frame: Frame)
     put_word(out, k + 2, frame.taken);
 }
 
-fn put_last(out: &mut [u8], k: usize, last: Last)
-    requires { ⌜ k + lastWidth ≤ recordWidth ⌝ }
-    requires { ⌜ 8 * (k + lastWidth) ≤ length (now out) ⌝ }
-    ensures { λ _. ⌜ now (out .exit) ≡ stored (now (out .entry)) k (lastWords last) ⌝ }
-{
-    put_word(out, k, bool_word(last.known));
-    put_word(out, k + 1, last.taken);
-}
-
-fn put_rows(out: &mut [u8], k: usize, rows: [Row; ROWS])
-    requires { ⌜ k + rowWidth * mostRows ≤ recordWidth ⌝ }
-    requires { ⌜ 8 * (k + rowWidth * mostRows) ≤ length (now out) ⌝ }
-    ensures { λ _. ⌜ now (out .exit) ≡ stored (now (out .entry)) k (flat rowWords rows) ⌝ }
-{
-    let mut i: usize = 0;
-    while i < ROWS {
-        put_row(out, k + 4 * i, rows[i]);
-        i += 1;
-    }
-}
-
-fn put_frames(out: &mut [u8], k: usize, frames: [Frame; CLASS_PLACES])
-    requires { ⌜ k + frameWidth * classPlaces ≤ recordWidth ⌝ }
-    requires { ⌜ 8 * (k + frameWidth * classPlaces) ≤ length (now out) ⌝ }
-    ensures { λ _. ⌜ now (out .exit) ≡ stored (now (out .entry)) k (flat frameWords frames) ⌝ }
-{
-    let mut i: usize = 0;
-    while i < CLASS_PLACES {
-        put_frame(out, k + 3 * i, frames[i]);
-        i += 1;
-    }
-}
-
-fn put_best_frames(out: &mut [u8], k: usize, frames: [Frame; BEST_PLACES])
-    requires { ⌜ k + frameWidth * bestPlaces ≤ recordWidth ⌝ }
-    requires { ⌜ 8 * (k + frameWidth * bestPlaces) ≤ length (now out) ⌝ }
-    ensures { λ _. ⌜ now (out .exit) ≡ stored (now (out .entry)) k (flat frameWords frames) ⌝ }
-{
-    let mut i: usize = 0;
-    while i < BEST_PLACES {
-        put_frame(out, k + 3 * i, frames[i]);
-        i += 1;
-    }
-}
-
-fn put_lasts(out: &mut [u8], k: usize, lasts: [Last; ROWS])
-    requires { ⌜ k + lastsWidth ≤ recordWidth ⌝ }
-    requires { ⌜ 8 * (k + lastsWidth) ≤ length (now out) ⌝ }
-    ensures { λ _. ⌜ now (out .exit) ≡ stored (now (out .entry)) k (flat lastWords lasts) ⌝ }
-{
-    let mut i: usize = 0;
-    while i < ROWS {
-        put_last(out, k + 2 * i, lasts[i]);
-        i += 1;
-    }
-}
-
-fn put_table(out: &mut [u8], k: usize, t: Table)
-    requires { ⌜ k + tableWidth ≤ recordWidth ⌝ }
-    requires { ⌜ 8 * (k + tableWidth) ≤ length (now out) ⌝ }
-    ensures { λ _. ⌜ now (out .exit) ≡ stored (now (out .entry)) k (tableWords t) ⌝ }
-{
-    put_word(out, k, t.header.idlea as u64);
-    put_word(out, k + 1, t.header.idleb as u64);
-    put_word(out, k + 2, t.header.payload as u64);
-    put_word(out, k + 3, t.count as u64);
-    let rows = t.rows;
-    put_rows(out, k + 4, rows);
-}
-
 fn put_queue(out: &mut [u8], k: usize, q: Queue)
-    requires { ⌜ k + queueWidth ≤ recordWidth ⌝ }
-    requires { ⌜ 8 * (k + queueWidth) ≤ length (now out) ⌝ }
-    ensures { λ _. ⌜ now (out .exit) ≡ stored (now (out .entry)) k (queueWords q) ⌝ }
+    requires { ⌜ 8 * (k + 1 + frameWidth * classPlaces) ≤ length (now out) ⌝ }
+    ensures { λ _. ⌜ now (out .exit) ≡ queueOver k classPlaces (waiting (q .count) (q .frames)) (now (out .entry)) ⌝ }
 {
     put_word(out, k, q.count as u64);
-    let frames = q.frames;
-    put_frames(out, k + 1, frames);
+    let n = placed(q.count, CLASS_PLACES);
+    let mut i: usize = 0;
+    while i < n {
+        put_frame(out, k + 1 + 3 * i, q.frames[i]);
+        i += 1;
+    }
 }
 
 fn put_best(out: &mut [u8], k: usize, q: BestQueue)
-    requires { ⌜ k + bestWidth ≤ recordWidth ⌝ }
-    requires { ⌜ 8 * (k + bestWidth) ≤ length (now out) ⌝ }
-    ensures { λ _. ⌜ now (out .exit) ≡ stored (now (out .entry)) k (bestWords q) ⌝ }
+    requires { ⌜ 8 * (k + 1 + frameWidth * bestPlaces) ≤ length (now out) ⌝ }
+    ensures { λ _. ⌜ now (out .exit) ≡ queueOver k bestPlaces (waiting (q .count) (q .frames)) (now (out .entry)) ⌝ }
 {
     put_word(out, k, q.count as u64);
-    let frames = q.frames;
-    put_best_frames(out, k + 1, frames);
+    let n = placed(q.count, BEST_PLACES);
+    let mut i: usize = 0;
+    while i < n {
+        put_frame(out, k + 1 + 3 * i, q.frames[i]);
+        i += 1;
+    }
 }
 
-fn put_wire(out: &mut [u8], k: usize, w: Wire)
-    requires { ⌜ k + wireWidth ≤ recordWidth ⌝ }
-    requires { ⌜ 8 * (k + wireWidth) ≤ length (now out) ⌝ }
-    ensures { λ _. ⌜ now (out .exit) ≡ stored (now (out .entry)) k (wireWords w) ⌝ }
+// A row's mark, and its instant if it has one.
+fn put_last(out: &mut [u8], k: usize, last: Last)
+    requires { ⌜ 8 * (k + lastWidth) ≤ length (now out) ⌝ }
+    ensures { λ _. ⌜ now (out .exit) ≡ stored (now (out .entry)) k (lastWords (instantOf last)) ⌝ }
+{
+    if last.known {
+        put_word(out, k, 1);
+        put_word(out, k + 1, last.taken);
+        return;
+    }
+    put_word(out, k, 0);
+}
+
+// The instants of the first `count` rows.
+fn put_lasts(out: &mut [u8], lasts: [Last; ROWS], count: usize)
+    requires { ⌜ recordSize ≤ length (now out) ⌝ }
+    ensures { λ _. ⌜ now (out .exit) ≡ spread lastWords lastWidth lastStart (take mostRows (instantsOf count lasts)) (now (out .entry)) ⌝ }
+{
+    let n = placed(count, ROWS);
+    let mut i: usize = 0;
+    while i < n {
+        put_last(out, LAST_START + 2 * i, lasts[i]);
+        i += 1;
+    }
+}
+
+fn put_wire(out: &mut [u8], w: Wire)
+    requires { ⌜ recordSize ≤ length (now out) ⌝ }
+    ensures { λ _. ⌜ now (out .exit) ≡ stored (now (out .entry)) wireStart (wireWords w) ⌝ }
 {
     match w {
         Wire::Free => {
-            put_word(out, k, 0);
-            put_word(out, k + 1, 0);
-            put_word(out, k + 2, 0);
-            put_word(out, k + 3, 0);
-            put_word(out, k + 4, 0);
+            put_word(out, WIRE_START, 0);
         }
         Wire::Sending(frame, left) => {
-            put_word(out, k, 1);
-            put_frame(out, k + 1, frame);
-            put_word(out, k + 4, left as u64);
+            put_word(out, WIRE_START, 1);
+            put_frame(out, WIRE_START + 1, frame);
+            put_word(out, WIRE_START + 4, left as u64);
         }
     }
 }
 
-// The clock and the credits.
-fn put_numbers(out: &mut [u8], k: usize, p: Port)
-    requires { ⌜ k + numbersWidth ≤ recordWidth ⌝ }
-    requires { ⌜ 8 * (k + numbersWidth) ≤ length (now out) ⌝ }
-    ensures { λ _. ⌜ now (out .exit) ≡ stored (now (out .entry)) k (numberWords p) ⌝ }
-{
-    put_word(out, k, p.clock);
-    put_word(out, k + 1, signed_word(p.credita));
-    put_word(out, k + 2, signed_word(p.creditb));
-}
-
-// A port's record at the front of a buffer; the bytes behind it keep their values. Where it finds no room nothing is written.
+// A port's record at the front of a buffer. Where it finds no room nothing is written.
 pub fn write_record(out: &mut [u8], p: Port)
     ensures { λ _. ⌜ now (out .exit) ≡ written p (now (out .entry)) ⌝ }
 {
@@ -216,8 +206,8 @@ pub fn write_record(out: &mut [u8], p: Port)
         return;
     }
     let table = p.table;
-    put_table(out, TABLE_START, table);
-    put_numbers(out, CLOCK_START, p);
+    put_table(out, table);
+    put_numbers(out, p.clock, p.credita, p.creditb);
     let a = p.a;
     put_queue(out, QUEUEA_START, a);
     let b = p.b;
@@ -225,7 +215,7 @@ pub fn write_record(out: &mut [u8], p: Port)
     let best = p.best;
     put_best(out, BEST_START, best);
     let last = p.last;
-    put_lasts(out, LAST_START, last);
+    put_lasts(out, last, table.count);
     let wire = p.wire;
-    put_wire(out, WIRE_START, wire);
+    put_wire(out, wire);
 }

@@ -1,33 +1,42 @@
 -- A port kept as bytes, and the list of calls that has led to it.
-use Prim.Native.Nat.{ℕ, _≤_, _<_}
+use Prim.Native.Nat.{ℕ, zero, suc, _+_, _-_, _≤_, _<_}
 use mathlib.Core.Bool.{true, false}
 use mathlib.Core.List.{List, [], _∷_, _++_, append-nil}
 use mathlib.Core.Path.{_≡_, refl, sym, _∙_, ap}
 use native.Mathlib.Omega.{arith}
-use lib.ListN.{length, take, drop, drop-of-length-le}
+use lib.ListN.{length, take, drop, replicate, length-append, length-take, length-drop, length-map, length-replicate}
 use lib.Seq.{take-at}
-use borrow.Author.Tests.{le-leb, lt-leb}
+use borrow.Author.Tests.{le-leb, lt-leb, leb-true}
+use Rattle.table.specs.declared.Class.the-variants.{A, B}
+use Rattle.table.specs.declared.Row.{Row}
 use Rattle.table.specs.declared.Table.{Table}
-use Rattle.table.specs.Rows.{contents}
+use Rattle.table.specs.Limits.{mostRows}
+use Rattle.table.specs.Rows.{noRow, rowsOf, contents}
 use Rattle.table.specs.Checks.{Outcome, accepted, refused}
-use Rattle.table.proofs.Laws.{never}
+use Rattle.table.proofs.Laws.{never, rows-length}
+use Rattle.planner.specs.Opening.{opening}
+use Rattle.planner.proofs.Laws.{accepted-if}
 use Rattle.tablefile.specs.Reading.{readFile}
+use Rattle.tablefile.proofs.Laws.{read-filled}
 use Rattle.machine.specs.declared.Port.{Port}
-use Rattle.machine.specs.Limits.{noMark}
-use Rattle.machine.specs.State.{State, fresh, view, Places}
+use Rattle.machine.specs.Limits.{noMark, bestPlaces}
+use Rattle.machine.specs.State.{State, fresh, instantOf, instantsOf, view}
+use Rattle.machine.specs.Record.{bestSound, sound}
 use Rattle.machine.specs.Calls as machines
 use Rattle.machine.specs.Calls.{Call, Answer, taken, passed, denied, answer, Keeps, Gives}
 use Rattle.machine.specs.Run.{Event, event, Run, called}
-use Rattle.machine.proofs.Theorem.{every-run}
+use Rattle.machine.proofs.Theorem.{every-run, run-sound}
+use Rattle.machine.proofs.FromSound.{clauses, is-accepted}
 use Rattle.words.specs.Words.{flat, wordBytes}
 use Rattle.codes.specs.Codes.{codeOf, over, fileCheck}
+use Rattle.codes.proofs.Laws.{opened-accepted}
 use Rattle.recordbytes.specs.declared.Reading.{Reading}
 use Rattle.recordbytes.specs.Layout.{recordSize}
-use Rattle.recordbytes.specs.Record.{recordBytes, readRecord}
-use Rattle.recordbytes.specs.Fits.{Fits}
-use Rattle.recordbytes.specs.Plain.{portFrom, recordOf}
-use Rattle.recordbytes.proofs.Laws.{plain-view}
-use Rattle.recordbytes.proofs.Trip.{record-trip, record-size}
+use Rattle.recordbytes.specs.Record.{recordOver, stateOf, isRecord}
+use Rattle.recordbytes.specs.Fits.{Placed, Numbered, Fits}
+use Rattle.recordbytes.specs.Port.{placed, tableFrom, portFrom, readRecord}
+use Rattle.recordbytes.proofs.Laws.{named-placed, long, placed-are, contents-back}
+use Rattle.recordbytes.proofs.Trip.{reading-written, same-parts, behind-kept}
 use Rattle.recordwrite.specs.Written.{written}
 use Rattle.recordwrite.proofs.Laws.{written-fits}
 use Rattle.callbytes.specs.Calls.{answerSize, readCall, isReadable, callOf, answerBytes, fronted, isDenied}
@@ -36,32 +45,52 @@ use Rattle.turns.specs.declared.FilePort.{FilePort}
 use Rattle.turns.specs.declared.Stepped.{Stepped}
 use Rattle.turns.specs.Turns.{FileOpened, Steps}
 use Rattle.turns.proofs.Laws.{start}
-use Rattle.saved.specs.Saved.{Reached, openCheck, OpenedInto, callCheck, answerOn, bytesBy, bytesAfter, Called}
+use Rattle.saved.specs.Saved.{Reached, openCheck, cleared, OpenedInto, callCheck, answerOn, bytesBy, bytesAfter, Called}
 
 not-both : {X : Type 0} → true ≡ false → X
 not-both e = let z : _≡_ {A = ℕ} 0 1 = cc in absurd (omega arith)
 
--- ---- the bytes of a port that a list has led to
-record-length : (q : Port) → Fits q → length (recordBytes q) ≡ recordSize
-record-length q f = record-size (recordBytes q) (ap (λ (r : Reading). r .readable) (record-trip q f))
+-- ---- a port that a list has led to fits in a record
+last-length : (p : Port) → length (view p .last) ≡ length (view p .table .rows)
+unfolding view
+last-length p =
+    let n : length (instantsOf (p .table .count) (p .last)) ≡ p .table .count = rw (length-append, length-map, length-take, length-replicate) (omega arith) in
+    n ∙ sym (rows-length (p .table))
 
-holds : {t : Table} {es : List Event} (q : Port) → Fits q → Run t es q → Reached t es (recordBytes q)
-holds {t} {es} q f run =
-    let e : readRecord (recordBytes q) ≡ record { readable = true; port = q } = record-trip q f in
-    record { readable = rw e refl; run = rw e run; demand3 = rw e (every-run t es q run) }
+best-few : (s : State) → bestSound s ≡ true → length (s .best) ≤ bestPlaces
+unfolding bestSound
+best-few s e = leb-true (length (s .best)) bestPlaces e
 
--- the record of a table and a port's parts
-from-both : {t u : Table} {x y : State} → t ≡ u → x ≡ y → portFrom t x ≡ portFrom u y
-from-both {t} {u} {x} {y} e f = ap (λ (w : Table). portFrom w x) e ∙ ap (portFrom u) f
+run-placed : {t : Table} {es : List Event} {p : Port} → Run t es p → Placed (view p)
+run-placed {t} {es} {p} r =
+    let c = clauses (view p) (run-sound r) in
+    let d = every-run t es p r in
+    record { rows = is-accepted (view p) c .ranges .most; a = d .places A; b = d .places B; best = best-few (view p) (c .best); last = last-length p }
 
-has-table : (t : Table) (x : State) → portFrom t x .table ≡ t
+-- a record with the same parts and the same table
+table-from : (s : State) → portFrom s .table ≡ tableFrom (s .table)
 unfolding portFrom
-has-table t x = refl
+table-from s = refl
 
-table-of : {q : Port} (t : Table) (x : State) → q ≡ portFrom t x → q .table ≡ t
-table-of t x e = ap (λ (p : Port). p .table) e ∙ has-table t x
+view-table : (p : Port) → view p .table ≡ contents (p .table)
+unfolding view
+view-table p = refl
+
+-- the table of the port that is handed out for a port's parts
+same-table : (p : Port) → tableFrom (contents (p .table)) ≡ p .table → portFrom (view p) .table ≡ p .table
+same-table p e = table-from (view p) ∙ ap tableFrom (view-table p) ∙ e
+
+-- bytes that a port was written over hold it: if the port that is handed out for them is led to by a list, they are
+holds : {t : Table} {es : List Event} (p : Port) (s : List ℕ) → Placed (view p) → Numbered (view p) → recordSize ≤ length s → Run t es (portFrom (view p)) → Reached t es (recordOver (view p) s)
+holds {t} {es} p s few small room run =
+    let back = reading-written (view p) s (record { placed = few; numbered = small }) room in
+    record { record-bytes = back .record-bytes; run = rw (back .port) run; demand3 = rw (back .port) (every-run t es (portFrom (view p)) run) }
 
 -- ---- opening
+cleared-length : (s : List ℕ) → recordSize ≤ length s → length (cleared s) ≡ length s
+unfolding cleared
+cleared-length s h = rw (length-append, length-replicate, length-drop) (omega arith)
+
 module _ (file before : List ℕ) where
   not-opened : {r n p : ℕ} → openCheck file (length before) ≡ refused n p → r ≡ codeOf (refused n p) → OpenedInto file before before r
   not-opened q e = record { code = e ∙ sym (ap codeOf q); buffer = rw q refl; reached = λ z. never (sym q ∙ z) }
@@ -70,29 +99,40 @@ module _ (file before : List ℕ) where
   unfolding openCheck
   open-short h e = not-opened {n = 103} {p = 0} (rw (lt-leb recordSize (length before) h) refl) e
 
-  module _ (long : recordSize ≤ length before) {o : FilePort} (made : FileOpened file o) where
+  module _ (room : recordSize ≤ length before) {o : FilePort} (made : FileOpened file o) where
     pub open-refused : (o .code ≡ 0 → ⊥) → OpenedInto file before before (o .code)
     unfolding openCheck
     open-refused h = by-file (fileCheck file) refl
       where
         by-file : (x : Outcome) → fileCheck file ≡ x → OpenedInto file before before (o .code)
         by-file accepted q = absurd (h (made .code ∙ ap codeOf q))
-        by-file (refused n p) q = not-opened {n = n} {p = p} (rw (le-leb recordSize (length before) long, q) refl) (made .code ∙ ap codeOf q)
+        by-file (refused n p) q = not-opened {n = n} {p = p} (rw (le-leb recordSize (length before) room, q) refl) (made .code ∙ ap codeOf q)
 
-    pub open-done : {q : Port} {after : List ℕ} → o .code ≡ 0 → Places (o .port) → Fits q → q ≡ portFrom (o .port .table) (view (o .port)) → after ≡ written q before → OpenedInto file before after (o .code)
-    unfolding openCheck recordOf
-    open-done {q} {after} z places fits plain w =
-        let e : after ≡ recordBytes q ++ drop recordSize before = w ∙ written-fits before q long in
-        let ok : openCheck file (length before) ≡ accepted = rw (le-leb recordSize (length before) long, made .told z) refl in
-        let size : length (recordBytes q) ≡ recordSize = record-length q fits in
-        let own : q ≡ portFrom (readFile file .table) (fresh (contents (readFile file .table))) = plain ∙ from-both (made .table) (made .fresh) in
-        let same : view q ≡ view (o .port) = ap view plain ∙ plain-view (o .port) places in
-        let front : take recordSize after ≡ recordBytes q = rw e (take-at (recordBytes q) (drop recordSize before) recordSize size) in
+    -- the table that was read has zeros in its unused places
+    own-table : o .code ≡ 0 → tableFrom (contents (o .port .table)) ≡ o .port .table
+    unfolding tableFrom
+    own-table z =
+        let both = opened-accepted file (made .told z) in
+        let few : length (contents (readFile file .table) .rows) ≤ mostRows = accepted-if (contents (readFile file .table)) (both .1) .ranges .most in
+        let f = read-filled file (both .0) (omega (arith, few, rows-length (readFile file .table))) in
+        rw (made .table, placed-are noRow mostRows (rowsOf (readFile file .table)) few, ← f .rows, ← f .count) refl
+
+    pub open-done : {zeros after : List ℕ} → o .code ≡ 0 → Numbered (view (o .port)) → zeros ≡ cleared before → after ≡ written (o .port) zeros → OpenedInto file before after (o .code)
+    unfolding openCheck
+    open-done {zeros} {after} z small c w =
+        let n : length (cleared before) ≡ length before = cleared-length before room in
+        let e : after ≡ recordOver (view (o .port)) (cleared before) = w ∙ rw c (written-fits (cleared before) (o .port) (rw n room)) in
+        let ok : openCheck file (length before) ≡ accepted = rw (le-leb recordSize (length before) room, made .told z) refl in
+        let same : view (portFrom (view (o .port))) ≡ view (o .port) = same-parts (view (o .port)) few in
+        let run : Run (readFile file .table) [] (portFrom (view (o .port))) = start file made z same (same-table (o .port) (own-table z)) in
         record {
           code = z ∙ rw ok refl;
-          buffer = rw (ok, ← own, size) e;
-          reached = λ _. rw front (holds q fits (start file made z same (table-of _ _ plain)));
+          buffer = rw ok (e ∙ ap (λ (s : State). recordOver s (cleared before)) (made .fresh));
+          reached = λ _. rw e (holds (o .port) (cleared before) few small (rw n room) run);
         }
+      where
+        few : Placed (view (o .port))
+        few = run-placed (start file made z refl refl)
 
 -- ---- a call
 free : (p q : Port) (a : Answer) → isDenied a ≡ false → Keeps a p q
@@ -105,15 +145,15 @@ kept-whole p q taken e k = not-both (sym e)
 kept-whole p q (passed n x) e k = not-both (sym e)
 kept-whole p q (denied n l) e k = k
 
-bytes-new : (a : Answer) (t : Table) (s : State) (old : List ℕ) → isDenied a ≡ false → bytesBy a t s old ≡ recordOf t s
-bytes-new taken t s old e = refl
-bytes-new (passed n x) t s old e = refl
-bytes-new (denied n l) t s old e = not-both e
+bytes-new : (a : Answer) (s : State) (old : List ℕ) → isDenied a ≡ false → bytesBy a s old ≡ recordOver s old
+bytes-new taken s old e = refl
+bytes-new (passed n x) s old e = refl
+bytes-new (denied n l) s old e = not-both e
 
-bytes-old : (a : Answer) (t : Table) (s : State) (old : List ℕ) → isDenied a ≡ true → bytesBy a t s old ≡ old
-bytes-old taken t s old e = not-both (sym e)
-bytes-old (passed n x) t s old e = not-both (sym e)
-bytes-old (denied n l) t s old e = refl
+bytes-old : (a : Answer) (s : State) (old : List ℕ) → isDenied a ≡ true → bytesBy a s old ≡ old
+bytes-old taken s old e = not-both (sym e)
+bytes-old (passed n x) s old e = not-both (sym e)
+bytes-old (denied n l) s old e = refl
 
 module _ (saved call before : List ℕ) where
   not-called : {r n p : ℕ} → callCheck call (length before) ≡ refused n p → r ≡ codeOf (refused n p) → Called saved saved call before before r
@@ -128,66 +168,87 @@ module _ (saved call before : List ℕ) where
     unfolding callCheck
     call-short h e = not-called {n = 103} {p = 0} (rw (known, lt-leb answerSize (length before) h) refl) e
 
-    module _ (long : answerSize ≤ length before) where
+    module _ (long-enough : answerSize ≤ length before) where
       abbrev c : Call
       c = callOf (readCall call)
 
       ready : callCheck call (length before) ≡ accepted
       unfolding callCheck
-      ready = rw (known, le-leb answerSize (length before) long) refl
+      ready = rw (known, le-leb answerSize (length before) long-enough) refl
 
       answered : {after : List ℕ} (a : Answer) → a ≡ answerOn saved c → after ≡ fronted (answerBytes a) before → after ≡ over (callCheck call (length before)) (answerBytes (answerOn saved c)) before
-      answered a e h = rw (ready, ← e, answer-length a) (h ∙ answer-fits a before long)
+      answered a e h = rw (ready, ← e, answer-length a) (h ∙ answer-fits a before long-enough)
 
-      pub call-broken : {after : List ℕ} → readRecord saved .readable ≡ false → after ≡ fronted (flat wordBytes (18 ∷ 0 ∷ noMark ∷ 0 ∷ 0 ∷ [])) before → Called saved saved call before after 0
-      unfolding answerOn bytesAfter answerBytes
-      call-broken {after} bad e =
-          let is : denied 18 0 ≡ answerOn saved c = rw bad refl in
-          record {
-            code = rw ready refl;
-            answer = answered (denied 18 0) is e;
-            port = rw (ready, ← is) refl;
-            reached = λ _ t es h. not-both (sym (h .readable) ∙ bad);
-          }
+      module _ {r : Reading} (read : r ≡ readRecord saved) where
+        tested : r .readable ≡ isRecord saved
+        unfolding readRecord
+        tested = ap (λ (x : Reading). x .readable) read
 
-      module _ (good : readRecord saved .readable ≡ true) {p : Port} (named : p ≡ readRecord saved .port) {s : Stepped} {after : List ℕ} (step : Steps p c s before after) where
-        abbrev a : Answer
-        a = answer (view p) c
-
-        abbrev next : State
-        next = machines.after (view p) c
-
-        is : a ≡ answerOn saved c
-        unfolding answerOn
-        is = rw (good, ← named) refl
-
-        longer : {t : Table} {es : List Event} {q : Port} → Reached t es saved → Gives p c a q → Run t (event c a ∷ es) q
-        longer h g = called (rw (← named) at (h .run)) g
-
-        pub call-refused : s .refused ≡ true → Called saved saved call before after 0
-        unfolding bytesAfter
-        call-refused r =
-            let no : isDenied a ≡ true = sym (step .refused) ∙ r in
-            let same : s .port ≡ p = kept-whole p (s .port) a no (step .gives .kept) in
+        pub call-broken : {after : List ℕ} → r .readable ≡ false → after ≡ fronted (flat wordBytes (18 ∷ 0 ∷ noMark ∷ 0 ∷ 0 ∷ [])) before → Called saved saved call before after 0
+        unfolding answerOn bytesAfter answerBytes
+        call-broken {after} unread e =
+            let bad : isRecord saved ≡ false = sym tested ∙ unread in
+            let is : denied 18 0 ≡ answerOn saved c = rw bad refl in
             record {
               code = rw ready refl;
-              answer = answered a is (step .bytes);
-              port = rw (ready, ← is) (sym (bytes-old a _ _ saved no));
-              reached = λ _ t es h. rw (← is) (record { readable = good; run = rw (← named) (longer h (rw same at (step .gives))); demand3 = rw (← named) (every-run t (event c a ∷ es) p (longer h (rw same at (step .gives)))) });
+              answer = answered (denied 18 0) is e;
+              port = rw (ready, ← is) refl;
+              reached = λ _ t es h. not-both (sym (h .record-bytes) ∙ bad);
             }
 
-        pub call-done : {q : Port} {kept : List ℕ} → s .refused ≡ false → Places (s .port) → Fits q → q ≡ portFrom (s .port .table) (view (s .port)) → kept ≡ written q saved → Called saved kept call before after 0
-        unfolding bytesAfter recordOf
-        call-done {q} {kept} r places fits plain w =
-            let yes : isDenied a ≡ false = sym (step .refused) ∙ r in
-            let size : length saved ≡ recordSize = record-size saved good in
-            let whole : kept ≡ recordBytes q = w ∙ written-fits saved q (omega (arith, size)) ∙ rw (drop-of-length-le saved {i = recordSize} (omega (arith, size))) (append-nil (recordBytes q)) in
-            let same : view q ≡ next = ap view plain ∙ (plain-view (s .port) places ∙ step .gives .port) in
-            let own : q .table ≡ p .table = table-of _ _ plain ∙ step .gives .table in
-            let g : Gives p c a q = record { answer = refl; port = same; table = own; kept = free p q a yes } in
-            record {
-              code = rw ready refl;
-              answer = answered a is (step .bytes);
-              port = rw (ready, ← is, ← named) (whole ∙ (ap recordBytes (plain ∙ from-both (step .gives .table) (step .gives .port)) ∙ sym (bytes-new a (p .table) next saved yes)));
-              reached = λ _ t es h. rw (← is, whole) (holds q fits (longer h g));
-            }
+        module _ (yes : r .readable ≡ true) {s : Stepped} {after : List ℕ} (step : Steps (r .port) c s before after) where
+          good : isRecord saved ≡ true
+          good = sym tested ∙ yes
+
+          -- the port that the bytes name, and its parts
+          named : r .port ≡ portFrom (stateOf saved)
+          unfolding readRecord
+          named = ap (λ (x : Reading). x .port) read ∙ rw good refl
+
+          parts : view (r .port) ≡ stateOf saved
+          parts = ap view named ∙ same-parts (stateOf saved) (named-placed saved good)
+
+          abbrev a : Answer
+          a = answer (view (r .port)) c
+
+          abbrev next : State
+          next = machines.after (view (r .port)) c
+
+          is : a ≡ answerOn saved c
+          unfolding answerOn
+          is = rw (good, ← parts) refl
+
+          longer : {t : Table} {es : List Event} {q : Port} → Reached t es saved → Gives (r .port) c a q → Run t (event c a ∷ es) q
+          longer h g = called (rw (← named) at (h .run)) g
+
+          pub call-refused : s .refused ≡ true → Called saved saved call before after 0
+          unfolding bytesAfter
+          call-refused e =
+              let denial : isDenied a ≡ true = sym (step .refused) ∙ e in
+              let same : s .port ≡ r .port = kept-whole (r .port) (s .port) a denial (step .gives .kept) in
+              record {
+                code = rw ready refl;
+                answer = answered a is (step .bytes);
+                port = rw (ready, ← is) (sym (bytes-old a _ saved denial));
+                reached = λ _ t es h. rw (← is) (record { record-bytes = good; run = rw (← named) (longer h (rw same at (step .gives))); demand3 = rw (← named) (every-run t (event c a ∷ es) (r .port) (longer h (rw same at (step .gives)))) });
+              }
+
+          -- the port that is handed out for the new bytes is what the call gives, too
+          pub call-done : {kept : List ℕ} → s .refused ≡ false → Numbered (view (s .port)) → kept ≡ written (s .port) saved → Called saved kept call before after 0
+          unfolding bytesAfter
+          call-done {kept} e small w =
+              let on : isDenied a ≡ false = sym (step .refused) ∙ e in
+              let whole : kept ≡ recordOver (view (s .port)) saved = w ∙ written-fits saved (s .port) (long saved good) in
+              record {
+                code = rw ready refl;
+                answer = answered a is (step .bytes);
+                port = rw (ready, ← is) (whole ∙ (ap (λ (x : State). recordOver x saved) (step .gives .port ∙ ap (λ (x : State). machines.after x c) parts) ∙ sym (bytes-new a _ saved on)));
+                reached = λ _ t es h.
+                    let run = longer h (step .gives) in
+                    let few = run-placed run in
+                    let own : tableFrom (contents (r .port .table)) ≡ r .port .table =
+                    rw (named, table-from (stateOf saved)) (ap tableFrom (contents-back (stateOf saved .table) (named-placed saved good .rows))) in
+                    let table : portFrom (view (s .port)) .table ≡ r .port .table = table-from (view (s .port)) ∙ ap tableFrom (view-table (s .port) ∙ ap contents (step .gives .table)) ∙ own in
+                    let g : Gives (r .port) c a (portFrom (view (s .port))) = record { answer = refl; port = same-parts (view (s .port)) few ∙ step .gives .port; table = table; kept = free _ _ a on } in
+                    rw (← is, whole) (holds (s .port) saved few small (long saved good) (longer h g));
+              }

@@ -1,17 +1,32 @@
 // A port kept as bytes between calls.
-ghost use Rattle.saved.specs.Saved.{OpenedInto, Called};
+ghost use mathlib.Core.Path.{_≡_};
+ghost use Prim.Native.Nat.{_≤_};
+ghost use lib.ListN.{length};
+ghost use Rattle.recordbytes.specs.Layout.{recordSize};
+ghost use Rattle.saved.specs.Saved.{cleared, OpenedInto, Called};
 use callbytes::answers::ANSWER_SIZE;
 use callbytes::answers::put_answer;
 use callbytes::calls::is_readable;
 use callbytes::calls::read_call;
 use codes::code;
 use machine::NO_MARK;
-use plain::plain::plain;
 use recordbytes::RECORD_SIZE;
 use recordread::read::read_record;
 use recordwrite::write::write_record;
 use turns::opened::open_file;
 use turns::turn::step;
+
+// Zeros in as many bytes as a record has.
+fn clear(out: &mut [u8])
+    requires { ⌜ recordSize ≤ length (now out) ⌝ }
+    ensures { λ _. ⌜ now (out .exit) ≡ cleared (now (out .entry)) ⌝ }
+{
+    let mut i: usize = 0;
+    while i < RECORD_SIZE {
+        out[i] = 0;
+        i += 1;
+    }
+}
 
 // The fresh port of a table file as a record's bytes. At a refusal no byte is written.
 pub fn open(file: &[u8], out: &mut [u8]) -> u64
@@ -25,8 +40,9 @@ pub fn open(file: &[u8], out: &mut [u8]) -> u64
     if c != 0 {
         return c;
     }
+    clear(out);
     let p = o.port;
-    write_record(out, plain(p));
+    write_record(out, p);
     c
 }
 
@@ -52,7 +68,7 @@ pub fn call(saved: &mut [u8], call: &[u8], answer: &mut [u8]) -> u64
     let refused = s.refused;
     if !refused {
         let q = s.port;
-        write_record(saved, plain(q));
+        write_record(saved, q);
     }
     0
 }

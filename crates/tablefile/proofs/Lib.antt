@@ -8,4 +8,5 @@ mod RowsTrip
 mod HeaderTrip
 pub mod BothWays
 pub mod SameAnswers
+mod Filled
 pub mod Laws

@@ -2,27 +2,18 @@
 use Prim.Native.Nat.{ℕ, _+_, _*_, _≤_, _<_}
 use mathlib.Core.List.{List, [], _∷_}
 use mathlib.Core.Path.{_≡_, refl, _∙_}
-use native.Mathlib.Omega.{arith}
-use lib.ListN.{length, List·getD-eq-default}
+use lib.ListN.{length}
 use borrow.Author.Tests.{le-leb, lt-leb}
-use Rattle.words.specs.Words.{wordAt, stored, put}
+use Rattle.words.specs.Words.{halfAt, wordAt, stored, put}
 
 module _ (s : List ℕ) (k : ℕ) where
-  -- no byte of it is there
-  pub none-there : length s ≤ 8 * k → 0 ≡ wordAt s k
+  pub none-there : length s < 8 * (k + 1) → 0 ≡ wordAt s k
   unfolding wordAt
-  none-there h =
-      rw (
-        List·getD-eq-default s 0 {n = 8 * k} h,
-        List·getD-eq-default s 0 {n = 8 * k + 1} (omega arith),
-        List·getD-eq-default s 0 {n = 8 * k + 2} (omega arith),
-        List·getD-eq-default s 0 {n = 8 * k + 3} (omega arith),
-        List·getD-eq-default s 0 {n = 8 * k + 4} (omega arith),
-        List·getD-eq-default s 0 {n = 8 * k + 4 + 1} (omega arith),
-        List·getD-eq-default s 0 {n = 8 * k + 4 + 2} (omega arith),
-        List·getD-eq-default s 0 {n = 8 * k + 4 + 3} (omega arith),
-      )
-      refl
+  none-there h = rw (lt-leb (8 * (k + 1)) (length s) h) refl
+
+  pub word-inside : 8 * (k + 1) ≤ length s → wordAt s k ≡ halfAt s (8 * k) + 4294967296 * halfAt s (8 * k + 4)
+  unfolding wordAt
+  word-inside h = rw (le-leb (8 * (k + 1)) (length s) h) refl
 
   module _ (w : ℕ) where
     -- a word that fits is stored

@@ -2,4 +2,6 @@
 mod Stored
 mod Storing
 mod Fitting
+mod Held
+mod Spread
 pub mod Laws

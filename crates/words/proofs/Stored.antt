@@ -26,7 +26,7 @@ word-length w = refl
 pub bytes-length : (ws : List ℕ) → length (flat wordBytes ws) ≡ 8 * length ws
 bytes-length ws = flat-length wordBytes 8 word-length ws
 
-sets-append : (a b l : List ℕ) (i : ℕ) → sets (sets l i a) (i + length a) b ≡ sets l i (a ++ b)
+pub sets-append : (a b l : List ℕ) (i : ℕ) → sets (sets l i a) (i + length a) b ≡ sets l i (a ++ b)
 sets-append [] b l i = rw (add-zero i) refl
 sets-append (x ∷ a) b l i = rw (add-suc i (length a), ← suc-add i (length a)) (sets-append a b _ (suc i))
 

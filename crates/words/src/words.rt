@@ -1,34 +1,30 @@
 // Words of 64 bits in byte slices, little-endian.
 ghost use mathlib.Core.Path.{_≡_};
 ghost use Prim.Native.Nat.{_+_, _≤_, _<_};
-ghost use lib.ListN.{length, getD, set};
+ghost use lib.ListN.{length, set};
 ghost use lib.Seq.{sets};
 ghost use Rattle.words.specs.Words.{halfBytes, halfAt, wordAt, put};
 
-// A byte behind the end counts as 0.
-fn byte(s: &[u8], at: usize) -> u64
-    ensures { λ r. ⌜ r ≡ getD (now (s .entry)) at 0 ⌝ }
+fn wide(b: u8) -> u64
+    ensures { λ r. ⌜ r ≡ b ⌝ }
     ensures small { λ r. ⌜ r ≤ 255 ⌝ }
 {
-    if at < s.len() {
-        return s[at] as u64;
-    }
-    0
+    b as u64
 }
 
 fn half(s: &[u8], at: usize) -> u64
-    requires { ⌜ at + 3 ≤ 18446744073709551615 ⌝ }
+    requires { ⌜ at + 4 ≤ length (now s) ⌝ }
     ensures { λ r. ⌜ r ≡ halfAt (now (s .entry)) at ⌝ }
     ensures small { λ r. ⌜ r ≤ 4294967295 ⌝ }
 {
-    byte(s, at) + 256 * byte(s, at + 1) + 65_536 * byte(s, at + 2) + 16_777_216 * byte(s, at + 3)
+    wide(s[at]) + 256 * wide(s[at + 1]) + 65_536 * wide(s[at + 2]) + 16_777_216 * wide(s[at + 3])
 }
 
-// The word of number k.
+// The word of number k, or 0 where the bytes end before its last one.
 pub fn word(s: &[u8], k: usize) -> u64
     ensures { λ r. ⌜ r ≡ wordAt (now (s .entry)) k ⌝ }
 {
-    if s.len() / 8 < k {
+    if s.len() / 8 <= k {
         return 0;
     }
     half(s, 8 * k) + 4_294_967_296 * half(s, 8 * k + 4)

@@ -5,7 +5,7 @@ use Rattle.recordread.proofs.read.class_of.Statement.{statement}
 use Rattle.recordread.proofs.read.class_of.Tie as tie
 
 returns : tie.Need-returns
-returns c = rw (eq-eqb _ _ (c .if1 .taken)) refl
+returns c = rw (eq-eqb _ _ (c .if1 .taken))
 
 returns-2 : tie.Need-returns-2
 returns-2 c = rw (ne-eqb _ _ (c .if1 .left)) refl

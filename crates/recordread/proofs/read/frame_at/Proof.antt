@@ -1,5 +1,4 @@
 -- `recordread::read::frame_at` meets its contract.
-use Rattle.recordread.proofs.Named.{frame-named}
 use borrow.Author.Needs.{needs}
 use Rattle.recordread.proofs.read.frame_at.Statement.{statement}
 use Rattle.recordread.proofs.read.frame_at.Tie as tie
@@ -26,7 +25,7 @@ word-requires-3 : tie.Need-word-requires-3
 word-requires-3 c κs = search needs
 
 returns : tie.Need-returns
-returns c = frame-named _ _ (c .before .before .before .before .word .ensures) (c .before .before .before .u32-of .ensures) (c .before .before .word2 .ensures) (c .before .u32-of2 .ensures) (c .word3 .ensures)
+returns c = rw (c .word3 .ensures, c .before .u32-of2 .ensures, c .before .before .word2 .ensures, c .before .before .before .u32-of .ensures, c .before .before .before .before .word .ensures)
 
 pub frame-at-spec : {M : Type 1} → statement M
 frame-at-spec =

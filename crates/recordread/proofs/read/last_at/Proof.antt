@@ -1,5 +1,6 @@
 -- `recordread::read::last_at` meets its contract.
-use Rattle.recordread.proofs.Named.{last-named}
+use mathlib.Core.Path.{sym, _∙_}
+use Rattle.recordread.proofs.Named.{last-known, last-unknown}
 use borrow.Author.Needs.{needs}
 use Rattle.recordread.proofs.read.last_at.Statement.{statement}
 use Rattle.recordread.proofs.read.last_at.Tie as tie
@@ -14,7 +15,15 @@ word-requires-2 : tie.Need-word-requires-2
 word-requires-2 c κs = search needs
 
 returns : tie.Need-returns
-returns c = last-named _ _ (c .before .word .ensures) (c .word2 .ensures)
+returns c = last-known _ _ (sym (c .before .before .word .ensures) ∙ c .before .if1 .taken) (c .word2 .ensures)
+
+zero-last-requires : tie.Need-zero-last-requires
+zero-last-requires c κs = search needs
+
+returns-2 : tie.Need-returns-2
+returns-2 c = c .zero-last .ensures ∙ last-unknown _ _ (λ e. c .before .if1 .left (c .before .before .word .ensures ∙ e))
 
 pub last-at-spec : {M : Type 1} → statement M
-last-at-spec = tie.close (tie.spec word-requires add-word word-requires-2 returns)
+last-at-spec =
+    tie.close
+    (tie.spec word-requires add-word word-requires-2 returns zero-last-requires returns-2)

@@ -1,27 +1,37 @@
--- `recordread::read::lasts_at` meets its contract: the first i places are filled.
-use Prim.Native.Nat.{_-_, _≤_}
+-- `recordread::read::lasts_at` meets its contract: after i turns the first i are in their places.
+use Prim.Native.Nat.{ℕ, _-_, _≤_}
 use mathlib.Core.Path.{_≡_, refl, _∙_}
 use native.Mathlib.Omega.{arith}
 use lib.ListN.{length, length-set}
 use denote.Ref.{now}
-use Rattle.recordbytes.specs.Record.{lastAt}
-use Rattle.recordread.proofs.Gathered.{Filled, filled-first, filled-next, filled-end}
+use Rattle.words.specs.Words.{gathered}
+use Rattle.recordbytes.specs.Port.{placed}
+use Rattle.table.specs.Limits.{mostRows}
+use Rattle.machine.specs.State.{zeroLast}
+use Rattle.recordbytes.specs.Layout.{lastStart, lastWidth}
+use Rattle.recordbytes.specs.Record.{instantAt}
+use Rattle.recordbytes.specs.Port.{lastOf}
+use mathlib.Core.List.{List}
+use Rattle.machine.specs.declared.Last.{Last}
+use Rattle.recordread.proofs.Named.{none-gathered, one-more, lasts-named}
 use Rattle.recordread.proofs.read.lasts_at.Statement.{statement}
 use Rattle.recordread.proofs.read.lasts_at.Tie as tie
 
+-- a row's instant as the port holds it
+abbrev named : List ℕ → ℕ → Last
+named s k = lastOf (instantAt s k)
+
 abbrev Inv-loop : tie.InvT-loop
-Inv-loop s k lasts₀ i₀ lasts i = (i ≤ 32) × (length lasts ≡ 32) × Filled (lastAt s) 2 k 32 lasts i
+Inv-loop s n lasts₀ i₀ lasts i = (i ≤ n) × (length lasts ≡ mostRows) × (lasts ≡ placed mostRows zeroLast (gathered (named s) lastWidth lastStart i))
 
 abbrev μ-loop : tie.MeasureT-loop
-μ-loop s k lasts₀ i₀ lasts i = 32 - i
+μ-loop s n lasts₀ i₀ lasts i = n - i
 
-last-at-requires : tie.Need-last-at-requires Inv-loop μ-loop
-last-at-requires c κs = omega arith
+zero-last-requires : tie.Need-zero-last-requires Inv-loop μ-loop
+zero-last-requires c κs = omega arith
 
 loop-holds : tie.Need-loop-holds Inv-loop μ-loop
-loop-holds c =
-    let s = c .before .before in
-    (omega arith, refl, filled-first (lastAt (now (s .args .s))) 2 (s .args .k) 32 (omega arith) (c .last-at .ensures))
+loop-holds c = let s = c .before .before in (omega arith, refl, none-gathered zeroLast mostRows (named (now (s .args .s))) lastWidth lastStart (c .zero-last .ensures))
 
 mul-last-at : tie.Need-mul-last-at Inv-loop μ-loop
 mul-last-at c = omega arith
@@ -29,8 +39,8 @@ mul-last-at c = omega arith
 add-last-at : tie.Need-add-last-at Inv-loop μ-loop
 add-last-at c = omega arith
 
-last-at-requires-2 : tie.Need-last-at-requires-2 Inv-loop μ-loop
-last-at-requires-2 c κs = omega arith
+last-at-requires : tie.Need-last-at-requires Inv-loop μ-loop
+last-at-requires c κs = omega arith
 
 mul-lasts : tie.Need-mul-lasts Inv-loop μ-loop
 mul-lasts c = omega arith
@@ -48,13 +58,14 @@ loop-again : tie.Need-loop-again Inv-loop μ-loop
 loop-again c =
     let s = c .before .before .before .before .before in
     let l = c .before .before .loop in
-    (omega arith, length-set (l .lasts) (l .i) (c .last-at2 .result) ∙ l .inv .1, filled-next (lastAt (now (s .args .s))) 2 (s .args .k) 32 (l .lasts) (l .i) (omega arith) (l .inv .1) (c .last-at2 .ensures) (l .inv .2))
+    (omega arith, length-set (l .lasts) (l .i) (c .last-at .result) ∙ l .inv .1, one-more zeroLast mostRows (named (now (s .args .s))) lastWidth lastStart (l .i) (omega arith) (l .inv .2) (c .last-at .ensures))
 
 returns : tie.Need-returns Inv-loop μ-loop
 returns c =
     let s = c .before .before .before .before in
     let l = c .before .loop in
-    filled-end (lastAt (now (s .args .s))) 2 (s .args .k) 32 (l .lasts) (l .i) (c .loop-test .left) (l .inv .1) (l .inv .2)
+    let all : l .i ≡ s .args .n = omega arith in
+    lasts-named (now (s .args .s)) (s .args .n) (rw all at (l .inv .2))
 
 pub lasts-at-spec : {M : Type 1} → statement M
 lasts-at-spec =
@@ -62,11 +73,11 @@ lasts-at-spec =
     (tie.spec
     Inv-loop
     μ-loop
-    last-at-requires
+    zero-last-requires
     loop-holds
     mul-last-at
     add-last-at
-    last-at-requires-2
+    last-at-requires
     mul-lasts
     array-set-from-lasts
     add-i

@@ -1,39 +1,25 @@
 -- `recordread::read::read_record` meets its contract.
-use Prim.Native.Nat.{ℕ}
-use lib.ListN.{replicate, length-replicate}
-use denote.Ref.{now}
-use Rattle.recordbytes.specs.Layout.{recordSize}
-use Rattle.recordread.proofs.Named.{read-named}
+use mathlib.Core.Path.{sym, _∙_}
+use Rattle.recordread.proofs.Named.{record-read, no-record}
 use borrow.Author.Needs.{needs}
 use Rattle.recordread.proofs.read.read_record.Statement.{statement}
 use Rattle.recordread.proofs.read.read_record.Tie as tie
 
+is-record-requires : tie.Need-is-record-requires
+is-record-requires c κs = search needs
+
 port-of-requires : tie.Need-port-of-requires
-port-of-requires c κs = search needs
-
-slice-aggregate-write-record : tie.Need-slice-aggregate-write-record
-slice-aggregate-write-record c = search needs
-
-write-record-requires : tie.Need-write-record-requires
-write-record-requires c κs = search needs
-
-slice-aggregate-same : tie.Need-slice-aggregate-same
-slice-aggregate-same c = search needs
-
-same-requires : tie.Need-same-requires
-same-requires c κs = search needs
+port-of-requires c κs = sym (c .before .is-record .ensures) ∙ c .if1 .taken
 
 returns : tie.Need-returns
-returns c =
-    read-named (now (c .before .before .before .before .before .before .before .args .bytes)) (replicate recordSize 0) (length-replicate {A = ℕ} recordSize 0) (c .before .before .before .before .before .port-of .ensures) (c .before .before .before .write-record .ensures) (c .same .ensures)
+returns c = record-read _ (sym (c .before .before .is-record .ensures) ∙ c .before .if1 .taken) (c .port-of .ensures)
+
+no-port-requires : tie.Need-no-port-requires
+no-port-requires c κs = search needs
+
+returns-2 : tie.Need-returns-2
+returns-2 c = no-record _ (sym (c .before .before .is-record .ensures) ∙ c .before .if1 .left) (c .no-port .ensures)
 
 pub read-record-spec : {M : Type 1} → statement M
 read-record-spec =
-    tie.close
-    (tie.spec
-    port-of-requires
-    slice-aggregate-write-record
-    write-record-requires
-    slice-aggregate-same
-    same-requires
-    returns)
+    tie.close (tie.spec is-record-requires port-of-requires returns no-port-requires returns-2)

@@ -1,5 +1,4 @@
 -- `recordread::read::row_at` meets its contract.
-use Rattle.recordread.proofs.Named.{row-named}
 use borrow.Author.Needs.{needs}
 use Rattle.recordread.proofs.read.row_at.Statement.{statement}
 use Rattle.recordread.proofs.read.row_at.Tie as tie
@@ -38,11 +37,7 @@ u32-of-requires-2 : tie.Need-u32-of-requires-2
 u32-of-requires-2 c κs = search needs
 
 returns : tie.Need-returns
-returns c =
-    row-named _ _ (c .before .before .before .before .before .before .before .word .ensures) (c .before .before .before .before .before .before .class-of .ensures)
-    (c .before .before .before .before .before .word2 .ensures) (c .before .before .before .before .u16-of .ensures)
-    (c .before .before .before .word3 .ensures) (c .before .before .u32-of .ensures)
-    (c .before .word4 .ensures) (c .u32-of2 .ensures)
+returns c = rw (c .u32-of2 .ensures, c .before .word4 .ensures, c .before .before .u32-of .ensures, c .before .before .before .word3 .ensures, c .before .before .before .before .u16-of .ensures, c .before .before .before .before .before .word2 .ensures, c .before .before .before .before .before .before .class-of .ensures, c .before .before .before .before .before .before .before .word .ensures)
 
 pub row-at-spec : {M : Type 1} → statement M
 row-at-spec =

@@ -1,27 +1,30 @@
--- `recordread::read::rows_at` meets its contract: the first i places are filled.
+-- `recordread::read::rows_at` meets its contract: after i turns the first i are in their places.
 use Prim.Native.Nat.{_-_, _≤_}
 use mathlib.Core.Path.{_≡_, refl, _∙_}
 use native.Mathlib.Omega.{arith}
 use lib.ListN.{length, length-set}
 use denote.Ref.{now}
+use Rattle.words.specs.Words.{gathered}
+use Rattle.recordbytes.specs.Port.{placed}
+use Rattle.table.specs.Limits.{mostRows}
+use Rattle.table.specs.Rows.{noRow}
+use Rattle.recordbytes.specs.Layout.{rowsStart, rowWidth}
 use Rattle.recordbytes.specs.Record.{rowAt}
-use Rattle.recordread.proofs.Gathered.{Filled, filled-first, filled-next, filled-end}
+use Rattle.recordread.proofs.Named.{none-gathered, one-more}
 use Rattle.recordread.proofs.read.rows_at.Statement.{statement}
 use Rattle.recordread.proofs.read.rows_at.Tie as tie
 
 abbrev Inv-loop : tie.InvT-loop
-Inv-loop s k rows₀ i₀ rows i = (i ≤ 32) × (length rows ≡ 32) × Filled (rowAt s) 4 k 32 rows i
+Inv-loop s n rows₀ i₀ rows i = (i ≤ n) × (length rows ≡ mostRows) × (rows ≡ placed mostRows noRow (gathered (rowAt s) rowWidth rowsStart i))
 
 abbrev μ-loop : tie.MeasureT-loop
-μ-loop s k rows₀ i₀ rows i = 32 - i
+μ-loop s n rows₀ i₀ rows i = n - i
 
-row-at-requires : tie.Need-row-at-requires Inv-loop μ-loop
-row-at-requires c κs = omega arith
+zero-row-requires : tie.Need-zero-row-requires Inv-loop μ-loop
+zero-row-requires c κs = omega arith
 
 loop-holds : tie.Need-loop-holds Inv-loop μ-loop
-loop-holds c =
-    let s = c .before .before in
-    (omega arith, refl, filled-first (rowAt (now (s .args .s))) 4 (s .args .k) 32 (omega arith) (c .row-at .ensures))
+loop-holds c = let s = c .before .before in (omega arith, refl, none-gathered noRow mostRows (rowAt (now (s .args .s))) rowWidth rowsStart (c .zero-row .ensures))
 
 mul-row-at : tie.Need-mul-row-at Inv-loop μ-loop
 mul-row-at c = omega arith
@@ -29,8 +32,8 @@ mul-row-at c = omega arith
 add-row-at : tie.Need-add-row-at Inv-loop μ-loop
 add-row-at c = omega arith
 
-row-at-requires-2 : tie.Need-row-at-requires-2 Inv-loop μ-loop
-row-at-requires-2 c κs = omega arith
+row-at-requires : tie.Need-row-at-requires Inv-loop μ-loop
+row-at-requires c κs = omega arith
 
 mul-rows : tie.Need-mul-rows Inv-loop μ-loop
 mul-rows c = omega arith
@@ -48,13 +51,14 @@ loop-again : tie.Need-loop-again Inv-loop μ-loop
 loop-again c =
     let s = c .before .before .before .before .before in
     let l = c .before .before .loop in
-    (omega arith, length-set (l .rows) (l .i) (c .row-at2 .result) ∙ l .inv .1, filled-next (rowAt (now (s .args .s))) 4 (s .args .k) 32 (l .rows) (l .i) (omega arith) (l .inv .1) (c .row-at2 .ensures) (l .inv .2))
+    (omega arith, length-set (l .rows) (l .i) (c .row-at .result) ∙ l .inv .1, one-more noRow mostRows (rowAt (now (s .args .s))) rowWidth rowsStart (l .i) (omega arith) (l .inv .2) (c .row-at .ensures))
 
 returns : tie.Need-returns Inv-loop μ-loop
 returns c =
     let s = c .before .before .before .before in
     let l = c .before .loop in
-    filled-end (rowAt (now (s .args .s))) 4 (s .args .k) 32 (l .rows) (l .i) (c .loop-test .left) (l .inv .1) (l .inv .2)
+    let all : l .i ≡ s .args .n = omega arith in
+    rw all at (l .inv .2)
 
 pub rows-at-spec : {M : Type 1} → statement M
 rows-at-spec =
@@ -62,11 +66,11 @@ rows-at-spec =
     (tie.spec
     Inv-loop
     μ-loop
-    row-at-requires
+    zero-row-requires
     loop-holds
     mul-row-at
     add-row-at
-    row-at-requires-2
+    row-at-requires
     mul-rows
     array-set-from-rows
     add-i

@@ -1,4 +1,5 @@
 -- `recordread::read::wire_at` meets its contract.
+use mathlib.Core.Path.{sym, _∙_}
 use Rattle.recordread.proofs.Named.{free-named, sending-named}
 use borrow.Author.Needs.{needs}
 use Rattle.recordread.proofs.read.wire_at.Statement.{statement}
@@ -6,9 +7,6 @@ use Rattle.recordread.proofs.read.wire_at.Tie as tie
 
 word-requires : tie.Need-word-requires
 word-requires c κs = search needs
-
-returns : tie.Need-returns
-returns c = free-named _ _ (c .before .word .ensures) (c .if1 .taken)
 
 add-frame-at : tie.Need-add-frame-at
 add-frame-at c = search needs
@@ -25,18 +23,21 @@ word-requires-2 c κs = search needs
 u32-of-requires : tie.Need-u32-of-requires
 u32-of-requires c κs = search needs
 
+returns : tie.Need-returns
+returns c = rw (c .before .before .frame-at .ensures, c .u32-of .ensures, c .before .word2 .ensures) (sending-named _ _ (sym (c .before .before .before .before .word .ensures) ∙ c .before .before .before .if1 .taken))
+
 returns-2 : tie.Need-returns-2
-returns-2 c = sending-named _ _ (c .before .before .before .before .word .ensures) (c .before .before .before .if1 .left) (c .before .before .frame-at .ensures) (c .before .word2 .ensures) (c .u32-of .ensures)
+returns-2 c = free-named _ _ (λ e. c .if1 .left (c .before .word .ensures ∙ e))
 
 pub wire-at-spec : {M : Type 1} → statement M
 wire-at-spec =
     tie.close
     (tie.spec
     word-requires
-    returns
     add-frame-at
     frame-at-requires
     add-word
     word-requires-2
     u32-of-requires
+    returns
     returns-2)

@@ -1,5 +1,5 @@
 -- `recordwrite::write::put_frame` meets its contract.
-use Rattle.recordwrite.proofs.Storage.{frame-put}
+use Rattle.words.proofs.Laws.{three}
 use borrow.Author.Needs.{needs}
 use Rattle.recordwrite.proofs.write.put_frame.Statement.{statement}
 use Rattle.recordwrite.proofs.write.put_frame.Tie as tie
@@ -29,8 +29,7 @@ same-length : tie.Need-same-length
 same-length c = search needs
 
 returns : tie.Need-returns
-returns c =
-    frame-put _ _ _ (c .before .before .before .before .before .before .before .before .before .before .before .put-word .ensures) (c .before .before .before .before .before .before .put-word2 .ensures) (c .before .before .put-word3 .ensures)
+returns c = three _ _ _ _ _ (c .before .before .before .before .before .before .before .before .before .before .before .put-word .ensures) (c .before .before .before .before .before .before .put-word2 .ensures) (c .before .before .put-word3 .ensures)
 
 pub put-frame-spec : {M : Type 1} → statement M
 put-frame-spec =

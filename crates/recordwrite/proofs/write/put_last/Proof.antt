@@ -1,11 +1,8 @@
 -- `recordwrite::write::put_last` meets its contract.
-use Rattle.recordwrite.proofs.Storage.{last-put}
+use Rattle.recordwrite.proofs.Storage.{known-put, unknown-put}
 use borrow.Author.Needs.{needs}
 use Rattle.recordwrite.proofs.write.put_last.Statement.{statement}
 use Rattle.recordwrite.proofs.write.put_last.Tie as tie
-
-bool-word-requires : tie.Need-bool-word-requires
-bool-word-requires c κs = search needs
 
 put-word-requires : tie.Need-put-word-requires
 put-word-requires c κs = search needs
@@ -20,16 +17,26 @@ same-length : tie.Need-same-length
 same-length c = search needs
 
 returns : tie.Need-returns
-returns c =
-    last-put _ _ (c .before .before .before .before .before .before .before .before .before .before .args .last) (c .before .before .before .before .before .before .before .bool-word .ensures) (c .before .before .before .before .before .before .put-word .ensures) (c .before .before .put-word2 .ensures)
+returns c = known-put _ _ _ (c .before .before .before .before .before .before .before .before .if1 .taken) (c .before .before .before .before .before .before .put-word .ensures) (c .before .before .put-word2 .ensures)
+
+put-word-requires-3 : tie.Need-put-word-requires-3
+put-word-requires-3 c κs = search needs
+
+same-length-2 : tie.Need-same-length-2
+same-length-2 c = search needs
+
+returns-2 : tie.Need-returns-2
+returns-2 c = unknown-put _ _ _ (c .before .before .before .before .if1 .left) (c .before .before .put-word3 .ensures)
 
 pub put-last-spec : {M : Type 1} → statement M
 put-last-spec =
     tie.close
     (tie.spec
-    bool-word-requires
     put-word-requires
     add-put-word
     put-word-requires-2
     same-length
-    returns)
+    returns
+    put-word-requires-3
+    same-length-2
+    returns-2)

@@ -1,24 +1,29 @@
--- `recordwrite::write::put_lasts` meets its contract.
-use Prim.Native.Nat.{_+_, _-_, _*_, _≤_}
-use mathlib.Core.Path.{_≡_, refl, _∙_, ap}
+-- `recordwrite::write::put_lasts` meets its contract: after i turns the first i instants are stored.
+use Prim.Native.Nat.{_+_, _-_, _*_, _≤_, min}
+use mathlib.Core.Path.{_≡_, refl, sym, _∙_, ap}
 use native.Mathlib.Omega.{arith}
-use lib.ListN.{length}
+use lib.ListN.{length, take}
 use denote.Ref.{now}
+use Rattle.words.specs.Words.{spread}
+use Rattle.words.proofs.Laws.{stored-length, spread-none, spread-next, array-places}
 use denote.Struct.Declared as Declared
 use Rattle.machine.proofs.Last.{the-type}
-use Rattle.recordbytes.specs.Record.{lastWords}
-use Rattle.words.proofs.Laws.{stored-length, array-places, Storing, storing-first, storing-next, storing-end}
+use Rattle.recordbytes.specs.Layout.{lastStart, lastWidth}
+use Rattle.recordwrite.proofs.Storage.{instantWords, lasts-put}
 use Rattle.recordwrite.proofs.write.put_lasts.Statement.{statement}
 use Rattle.recordwrite.proofs.write.put_lasts.Tie as tie
 
 abbrev Inv-loop : tie.InvT-loop
-Inv-loop out₀ k lasts i₀ out i = (i ≤ 32) × (length out ≡ length out₀) × Storing lastWords 2 (λ x. refl) k lasts out₀ out i
+Inv-loop out₀ count lasts n i₀ out i = (i ≤ n) × (length out ≡ length out₀) × (out ≡ spread instantWords lastWidth lastStart (take i lasts) out₀)
 
 abbrev μ-loop : tie.MeasureT-loop
-μ-loop out₀ k lasts i₀ out i = 32 - i
+μ-loop out₀ count lasts n i₀ out i = n - i
+
+placed-requires : tie.Need-placed-requires Inv-loop μ-loop
+placed-requires c κs = omega arith
 
 loop-holds : tie.Need-loop-holds Inv-loop μ-loop
-loop-holds c = (omega arith, refl, storing-first lastWords 2 (λ x. refl) (c .before .args .k) (c .before .args .t3) (now (c .before .args .out)))
+loop-holds c = (omega arith, refl, spread-none _ _ _ _)
 
 mul-put-last : tie.Need-mul-put-last Inv-loop μ-loop
 mul-put-last c = omega arith
@@ -43,24 +48,24 @@ loop-less c = omega arith
 
 loop-again : tie.Need-loop-again Inv-loop μ-loop
 loop-again c =
-    let s = c .before .before .before .before .before .before .before .before in
+    let s = c .before .before .before .before .before .before .before .before .before in
     let l = c .before .before .before .before .before .before .loop in
     let p = c .before .before .put-last in
-    let long = array-places (Declared.row the-type) 32 (s .args .t3) _ (s .good .1 .1 .0) in (
+    let long = array-places (Declared.row the-type) 32 (s .args .t2) _ (s .good .1 .0) in (
       omega arith,
-      ap length (p .ensures) ∙ stored-length (l .out) (s .args .k + 2 * l .i) _ ∙ l .inv .1,
-      storing-next lastWords 2 (λ x. refl) (s .args .k) (s .args .t3) (now (s .args .out)) (l .out) (p .last .0) (l .i) _ (omega arith) (p .ensures) (l .inv .2),
+      ap length (p .ensures) ∙ stored-length (l .out) (379 + 2 * l .i) _ ∙ l .inv .1,
+      spread-next instantWords lastWidth lastStart (s .args .t2) _ (l .i) _ (omega arith) (l .inv .2) (p .ensures),
     )
 
 same-length : tie.Need-same-length Inv-loop μ-loop
-same-length c = c .before .loop .inv .1
+same-length c = omega arith
 
 returns : tie.Need-returns Inv-loop μ-loop
 returns c =
-    let s = c .before .before .before in
+    let s = c .before .before .before .before in
     let l = c .before .loop in
-    let long = array-places (Declared.row the-type) 32 (s .args .t3) _ (s .good .1 .1 .0) in
-    storing-end lastWords 2 (λ x. refl) (s .args .k) (s .args .t3) (now (s .args .out)) (l .out) (l .i) (omega arith) (l .inv .2)
+    let all : l .i ≡ min (s .args .count) 32 = omega arith in
+    lasts-put (s .args .count) (s .args .t2) (now (s .args .out)) (array-places (Declared.row the-type) 32 (s .args .t2) _ (s .good .1 .0)) (rw all at (l .inv .2))
 
 pub put-lasts-spec : {M : Type 1} → statement M
 put-lasts-spec =
@@ -68,6 +73,7 @@ put-lasts-spec =
     (tie.spec
     Inv-loop
     μ-loop
+    placed-requires
     loop-holds
     mul-put-last
     add-put-last

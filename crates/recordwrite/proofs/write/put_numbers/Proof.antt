@@ -1,7 +1,8 @@
 -- `recordwrite::write::put_numbers` meets its contract.
-use native.Mathlib.Omega.{arith}
 use Rattle.recordbytes.proofs.Laws.{word-plain}
-use Rattle.recordwrite.proofs.Storage.{numbers-put}
+use denote.Ref.{now}
+use Rattle.words.proofs.Laws.{three}
+use Rattle.recordbytes.specs.Layout.{clockStart}
 use borrow.Author.Needs.{needs}
 use Rattle.recordwrite.proofs.write.put_numbers.Statement.{statement}
 use Rattle.recordwrite.proofs.write.put_numbers.Tie as tie
@@ -25,16 +26,17 @@ signed-word-requires-2 : tie.Need-signed-word-requires-2
 signed-word-requires-2 c κs = search needs
 
 put-word-requires-3 : tie.Need-put-word-requires-3
-put-word-requires-3 c κs = omega (arith, c .before .before .before .before .out2 .given, c .before .before .before .before .before .before .before .before .before .before .out .given, c .before .before .before .before .before .before .before .before .before .before .before .before .before .before .pre .1)
+put-word-requires-3 c κs = search needs
 
 same-length : tie.Need-same-length
 same-length c = search needs
 
 returns : tie.Need-returns
 returns c =
-    let p = c .before .before .before .before .before .before .before .before .before .before .before .before .before .before .before .before .before .args .p in
-    numbers-put _ _ p (word-plain (p .credita) (c .before .before .before .before .before .before .before .before .before .before .struct-told .given .1 .1 .0 .1) (c .before .before .before .before .before .before .before .before .before .signed-word .ensures)) (word-plain (p .creditb) (c .before .before .before .before .struct-told2 .given .1 .1 .1 .0 .1) (c .before .before .before .signed-word2 .ensures))
-    (c .before .before .before .before .before .before .before .before .before .before .before .before .before .before .put-word .ensures) (c .before .before .before .before .before .before .before .before .put-word2 .ensures) (c .before .before .put-word3 .ensures)
+    let s = c .before .before .before .before .before .before .before .before .before .before .before .before .before .before .before .args in
+    let words = three (now (s .out)) clockStart (s .clock) _ _ (c .before .before .before .before .before .before .before .before .before .before .before .before .put-word .ensures) (c .before .before .before .before .before .before .before .put-word2 .ensures) (c .before .before .put-word3 .ensures) in
+    let f = c .before .before .before .before .before .before .before .before .before .before .before .before .before .before .before .fits in
+    rw (word-plain (s .a) (f .a .sfits) (c .before .before .before .before .before .before .before .before .signed-word .ensures), word-plain (s .b) (f .b .sfits) (c .before .before .before .signed-word2 .ensures)) at words
 
 pub put-numbers-spec : {M : Type 1} → statement M
 put-numbers-spec =

@@ -1,24 +1,29 @@
--- `recordwrite::write::put_rows` meets its contract.
-use Prim.Native.Nat.{_+_, _-_, _*_, _≤_}
-use mathlib.Core.Path.{_≡_, refl, _∙_, ap}
+-- `recordwrite::write::put_rows` meets its contract: after i turns the first i rows are stored.
+use Prim.Native.Nat.{_+_, _-_, _*_, _≤_, min}
+use mathlib.Core.Path.{_≡_, refl, sym, _∙_, ap}
 use native.Mathlib.Omega.{arith}
-use lib.ListN.{length}
+use lib.ListN.{length, take}
 use denote.Ref.{now}
-use denote.Struct.Declared as Declared
-use Rattle.table.proofs.Row.{the-type}
+use Rattle.words.specs.Words.{spread}
+use Rattle.words.proofs.Laws.{stored-length, spread-none, spread-next, array-places}
+use Rattle.table.proofs.Laws.{places}
+use Rattle.recordbytes.specs.Layout.{rowsStart, rowWidth}
 use Rattle.recordbytes.specs.Record.{rowWords}
-use Rattle.words.proofs.Laws.{stored-length, array-places, Storing, storing-first, storing-next, storing-end}
+use Rattle.recordwrite.proofs.Storage.{rows-placed}
 use Rattle.recordwrite.proofs.write.put_rows.Statement.{statement}
 use Rattle.recordwrite.proofs.write.put_rows.Tie as tie
 
 abbrev Inv-loop : tie.InvT-loop
-Inv-loop out₀ k rows i₀ out i = (i ≤ 32) × (length out ≡ length out₀) × Storing rowWords 4 (λ x. refl) k rows out₀ out i
+Inv-loop out₀ t n i₀ out i = (i ≤ n) × (length out ≡ length out₀) × (out ≡ spread rowWords rowWidth rowsStart (take i (t .rows)) out₀)
 
 abbrev μ-loop : tie.MeasureT-loop
-μ-loop out₀ k rows i₀ out i = 32 - i
+μ-loop out₀ t n i₀ out i = n - i
+
+placed-requires : tie.Need-placed-requires Inv-loop μ-loop
+placed-requires c κs = omega arith
 
 loop-holds : tie.Need-loop-holds Inv-loop μ-loop
-loop-holds c = (omega arith, refl, storing-first rowWords 4 (λ x. refl) (c .before .args .k) (c .before .args .t3) (now (c .before .args .out)))
+loop-holds c = (omega arith, refl, spread-none _ _ _ _)
 
 mul-put-row : tie.Need-mul-put-row Inv-loop μ-loop
 mul-put-row c = omega arith
@@ -29,8 +34,8 @@ add-put-row c = omega arith
 mul-put-row-2 : tie.Need-mul-put-row-2 Inv-loop μ-loop
 mul-put-row-2 c = omega arith
 
-array-copy-out-put-row : tie.Need-array-copy-out-put-row Inv-loop μ-loop
-array-copy-out-put-row c = omega arith
+element-copy-out-put-row : tie.Need-element-copy-out-put-row Inv-loop μ-loop
+element-copy-out-put-row c = omega arith
 
 put-row-requires : tie.Need-put-row-requires Inv-loop μ-loop
 put-row-requires c κs = omega arith
@@ -43,24 +48,24 @@ loop-less c = omega arith
 
 loop-again : tie.Need-loop-again Inv-loop μ-loop
 loop-again c =
-    let s = c .before .before .before .before .before .before .before .before in
+    let s = c .before .before .before .before .before .before .before .before .before in
     let l = c .before .before .before .before .before .before .loop in
     let p = c .before .before .put-row in
-    let long = array-places (Declared.row the-type) 32 (s .args .t3) _ (s .good .1 .1 .0) in (
+    let long = places (s .args .t2) _ (s .good .1 .0) in (
       omega arith,
-      ap length (p .ensures) ∙ stored-length (l .out) (s .args .k + 4 * l .i) _ ∙ l .inv .1,
-      storing-next rowWords 4 (λ x. refl) (s .args .k) (s .args .t3) (now (s .args .out)) (l .out) (p .last .0) (l .i) _ (omega arith) (p .ensures) (l .inv .2),
+      ap length (p .ensures) ∙ stored-length (l .out) (5 + 4 * l .i) _ ∙ l .inv .1,
+      spread-next rowWords rowWidth rowsStart (s .args .t2 .rows) _ (l .i) _ (omega arith) (l .inv .2) (p .ensures),
     )
 
 same-length : tie.Need-same-length Inv-loop μ-loop
-same-length c = c .before .loop .inv .1
+same-length c = omega arith
 
 returns : tie.Need-returns Inv-loop μ-loop
 returns c =
-    let s = c .before .before .before in
+    let s = c .before .before .before .before in
     let l = c .before .loop in
-    let long = array-places (Declared.row the-type) 32 (s .args .t3) _ (s .good .1 .1 .0) in
-    storing-end rowWords 4 (λ x. refl) (s .args .k) (s .args .t3) (now (s .args .out)) (l .out) (l .i) (omega arith) (l .inv .2)
+    let all : l .i ≡ min (s .args .t2 .count) 32 = omega arith in
+    l .inv .2 ∙ rw (all, rows-placed (s .args .t2) (places (s .args .t2) _ (s .good .1 .0))) refl
 
 pub put-rows-spec : {M : Type 1} → statement M
 put-rows-spec =
@@ -68,11 +73,12 @@ put-rows-spec =
     (tie.spec
     Inv-loop
     μ-loop
+    placed-requires
     loop-holds
     mul-put-row
     add-put-row
     mul-put-row-2
-    array-copy-out-put-row
+    element-copy-out-put-row
     put-row-requires
     add-i
     loop-less

@@ -1,41 +1,12 @@
 -- `recordwrite::write::put_table` meets its contract.
+use denote.Ref.{now}
 use Rattle.recordwrite.proofs.Storage.{table-put}
 use borrow.Author.Needs.{needs}
 use Rattle.recordwrite.proofs.write.put_table.Statement.{statement}
 use Rattle.recordwrite.proofs.write.put_table.Tie as tie
 
-cast-put-word : tie.Need-cast-put-word
-cast-put-word c = search needs
-
-put-word-requires : tie.Need-put-word-requires
-put-word-requires c κs = search needs
-
-add-put-word : tie.Need-add-put-word
-add-put-word c = search needs
-
-cast-put-word-2 : tie.Need-cast-put-word-2
-cast-put-word-2 c = search needs
-
-put-word-requires-2 : tie.Need-put-word-requires-2
-put-word-requires-2 c κs = search needs
-
-add-put-word-2 : tie.Need-add-put-word-2
-add-put-word-2 c = search needs
-
-cast-put-word-3 : tie.Need-cast-put-word-3
-cast-put-word-3 c = search needs
-
-put-word-requires-3 : tie.Need-put-word-requires-3
-put-word-requires-3 c κs = search needs
-
-add-put-word-3 : tie.Need-add-put-word-3
-add-put-word-3 c = search needs
-
-put-word-requires-4 : tie.Need-put-word-requires-4
-put-word-requires-4 c κs = search needs
-
-add-put-rows : tie.Need-add-put-rows
-add-put-rows c = search needs
+put-head-requires : tie.Need-put-head-requires
+put-head-requires c κs = search needs
 
 put-rows-requires : tie.Need-put-rows-requires
 put-rows-requires c κs = search needs
@@ -44,24 +15,7 @@ same-length : tie.Need-same-length
 same-length c = search needs
 
 returns : tie.Need-returns
-returns c =
-    table-put _ _ _ (c .before .before .before .before .before .before .before .before .before .before .before .before .before .before .before .before .before .before .before .before .before .put-word .ensures) (c .before .before .before .before .before .before .before .before .before .before .before .before .before .before .before .before .put-word2 .ensures) (c .before .before .before .before .before .before .before .before .before .before .before .put-word3 .ensures) (c .before .before .before .before .before .before .before .put-word4 .ensures) (c .before .before .put-rows .ensures)
+returns c = let s = c .before .before .before .before .before .before .before .before .before .args in table-put (s .t) (now (s .out)) (c .before .before .before .before .before .before .put-head .ensures) (c .before .before .put-rows .ensures)
 
 pub put-table-spec : {M : Type 1} → statement M
-put-table-spec =
-    tie.close
-    (tie.spec
-    cast-put-word
-    put-word-requires
-    add-put-word
-    cast-put-word-2
-    put-word-requires-2
-    add-put-word-2
-    cast-put-word-3
-    put-word-requires-3
-    add-put-word-3
-    put-word-requires-4
-    add-put-rows
-    put-rows-requires
-    same-length
-    returns)
+put-table-spec = tie.close (tie.spec put-head-requires put-rows-requires same-length returns)

@@ -1,5 +1,5 @@
 -- `recordwrite::write::put_wire` meets its contract.
-use Rattle.recordwrite.proofs.Storage.{sending-put, free-put}
+use Rattle.recordwrite.proofs.Storage.{free-put, sending-put}
 use borrow.Author.Needs.{needs}
 use Rattle.recordwrite.proofs.write.put_wire.Statement.{statement}
 use Rattle.recordwrite.proofs.write.put_wire.Tie as tie
@@ -10,35 +10,11 @@ enum-told c = search needs
 put-word-requires : tie.Need-put-word-requires
 put-word-requires c κs = search needs
 
-add-put-word : tie.Need-add-put-word
-add-put-word c = search needs
-
-put-word-requires-2 : tie.Need-put-word-requires-2
-put-word-requires-2 c κs = search needs
-
-add-put-word-2 : tie.Need-add-put-word-2
-add-put-word-2 c = search needs
-
-put-word-requires-3 : tie.Need-put-word-requires-3
-put-word-requires-3 c κs = search needs
-
-add-put-word-3 : tie.Need-add-put-word-3
-add-put-word-3 c = search needs
-
-put-word-requires-4 : tie.Need-put-word-requires-4
-put-word-requires-4 c κs = search needs
-
-add-put-word-4 : tie.Need-add-put-word-4
-add-put-word-4 c = search needs
-
-put-word-requires-5 : tie.Need-put-word-requires-5
-put-word-requires-5 c κs = search needs
-
 enum-known-w : tie.Need-enum-known-w
 enum-known-w c = search needs
 
-put-word-requires-6 : tie.Need-put-word-requires-6
-put-word-requires-6 c κs = search needs
+put-word-requires-2 : tie.Need-put-word-requires-2
+put-word-requires-2 c κs = search needs
 
 add-put-frame : tie.Need-add-put-frame
 add-put-frame c = search needs
@@ -46,28 +22,26 @@ add-put-frame c = search needs
 put-frame-requires : tie.Need-put-frame-requires
 put-frame-requires c κs = search needs
 
-add-put-word-5 : tie.Need-add-put-word-5
-add-put-word-5 c = search needs
+add-put-word : tie.Need-add-put-word
+add-put-word c = search needs
 
 cast-put-word : tie.Need-cast-put-word
 cast-put-word c = search needs
 
-put-word-requires-7 : tie.Need-put-word-requires-7
-put-word-requires-7 c κs = search needs
+put-word-requires-3 : tie.Need-put-word-requires-3
+put-word-requires-3 c κs = search needs
 
 same-length : tie.Need-same-length
 same-length c = search needs
 
 returns : tie.Need-returns
-returns c =
-    free-put _ _ (c .before .before .before .before .before .before .before .before .before .before .before .before .before .before .before .before .before .before .before .before .enum-told .given .1) (c .before .before .before .before .before .before .before .before .before .before .before .before .before .before .before .before .before .before .put-word .ensures) (c .before .before .before .before .before .before .before .before .before .before .before .before .before .before .put-word2 .ensures) (c .before .before .before .before .before .before .before .before .before .before .put-word3 .ensures) (c .before .before .before .before .before .before .put-word4 .ensures) (c .before .before .put-word5 .ensures)
+returns c = free-put _ _ (c .before .before .before .before .enum-told .given .1) (c .before .before .put-word .ensures)
 
 same-length-2 : tie.Need-same-length-2
 same-length-2 c = search needs
 
 returns-2 : tie.Need-returns-2
-returns-2 c =
-    sending-put _ _ (c .before .before .before .before .before .before .before .before .before .before .before .before .before .w .given .1) (c .before .before .before .before .before .before .before .before .before .before .put-word6 .ensures) (c .before .before .before .before .before .before .put-frame .ensures) (c .before .before .put-word7 .ensures)
+returns-2 c = sending-put _ _ (c .before .before .before .before .before .before .before .before .before .before .before .before .before .w .given .1) (c .before .before .before .before .before .before .before .before .before .before .put-word2 .ensures) (c .before .before .before .before .before .before .put-frame .ensures) (c .before .before .put-word3 .ensures)
 
 pub put-wire-spec : {M : Type 1} → statement M
 put-wire-spec =
@@ -75,21 +49,13 @@ put-wire-spec =
     (tie.spec
     enum-told
     put-word-requires
-    add-put-word
-    put-word-requires-2
-    add-put-word-2
-    put-word-requires-3
-    add-put-word-3
-    put-word-requires-4
-    add-put-word-4
-    put-word-requires-5
     enum-known-w
-    put-word-requires-6
+    put-word-requires-2
     add-put-frame
     put-frame-requires
-    add-put-word-5
+    add-put-word
     cast-put-word
-    put-word-requires-7
+    put-word-requires-3
     same-length
     returns
     same-length-2

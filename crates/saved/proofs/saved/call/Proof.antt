@@ -1,11 +1,9 @@
 -- `saved::saved::call` meets its contract: by whether the call can be read, its answer fits, the bytes are a record, and the call is refused.
 use mathlib.Core.Path.{sym, _∙_, ap}
 use borrow.Author.Tests.{not-true, not-false}
-use Rattle.recordbytes.specs.declared.Reading.{Reading}
 use Rattle.callbytes.specs.Calls.{isReadable}
+use Rattle.recordbytes.proofs.Laws.{owned-numbered}
 use Rattle.saved.proofs.Reaching.{call-unread, call-short, call-broken, call-refused, call-done}
-use Rattle.machine.proofs.Places.{port-places}
-use Rattle.recordbytes.proofs.Laws.{port-fits}
 use borrow.Author.Needs.{needs}
 use Rattle.saved.proofs.saved.call.Statement.{statement}
 use Rattle.saved.proofs.saved.call.Tie as tie
@@ -44,13 +42,10 @@ same-length-2 : tie.Need-same-length-2
 same-length-2 c = search needs
 
 returns-3 : tie.Need-returns-3
-returns-3 c = call-broken _ _ _ (sym (c .before .before .before .before .before .before .before .before .before .is-readable .ensures ∙ ap isReadable (c .before .before .before .before .before .before .before .before .before .before .read-call .ensures)) ∙ not-false _ (c .before .before .before .before .before .before .before .before .if1 .left)) (c .before .before .before .before .before .before .before .if2 .left) (sym (ap (λ (r : Reading). r .readable) (c .before .before .before .before .before .read-record .ensures)) ∙ not-true _ (c .before .before .before .before .if3 .taken)) (c .before .before .put-answer .ensures)
+returns-3 c = call-broken _ _ _ (sym (c .before .before .before .before .before .before .before .before .before .is-readable .ensures ∙ ap isReadable (c .before .before .before .before .before .before .before .before .before .before .read-call .ensures)) ∙ not-false _ (c .before .before .before .before .before .before .before .before .if1 .left)) (c .before .before .before .before .before .before .before .if2 .left) (c .before .before .before .before .before .read-record .ensures) (not-true _ (c .before .before .before .before .if3 .taken)) (c .before .before .put-answer .ensures)
 
 step-requires : tie.Need-step-requires
 step-requires c κs = search needs
-
-plain-requires : tie.Need-plain-requires
-plain-requires c κs = search needs
 
 write-record-requires : tie.Need-write-record-requires
 write-record-requires c κs = search needs
@@ -63,9 +58,8 @@ same-length-4 c = search needs
 
 returns-4 : tie.Need-returns-4
 returns-4 c =
-    let s = c .before .before .before .before .before .before .before .before .before .step in
-    let q = c .before .before .before .plain in
-    call-done _ _ _ (sym (c .before .before .before .before .before .before .before .before .before .before .before .before .before .before .before .before .before .is-readable .ensures ∙ ap isReadable (c .before .before .before .before .before .before .before .before .before .before .before .before .before .before .before .before .before .before .read-call .ensures)) ∙ not-false _ (c .before .before .before .before .before .before .before .before .before .before .before .before .before .before .before .before .if1 .left)) (c .before .before .before .before .before .before .before .before .before .before .before .before .before .before .before .if2 .left) (sym (ap (λ (r : Reading). r .readable) (c .before .before .before .before .before .before .before .before .before .before .before .before .before .read-record .ensures)) ∙ not-false _ (c .before .before .before .before .before .before .before .before .before .before .before .before .if3 .left)) (ap (λ (r : Reading). r .port) (c .before .before .before .before .before .before .before .before .before .before .before .before .before .read-record .ensures)) (rw (c .before .before .before .before .before .before .before .before .before .before .before .before .before .before .before .before .before .before .read-call .ensures) at (s .ensures)) (not-true _ (c .before .before .before .before .before .before .if4 .taken)) (port-places (s .result .port) _ (s .ok .1 .1 .1 .0)) (port-fits (q .result) _ (q .ok)) (q .ensures) (c .before .before .write-record .ensures)
+    let s = c .before .before .before .before .before .before .before .before .step in
+    call-done _ _ _ (sym (c .before .before .before .before .before .before .before .before .before .before .before .before .before .before .before .before .is-readable .ensures ∙ ap isReadable (c .before .before .before .before .before .before .before .before .before .before .before .before .before .before .before .before .before .read-call .ensures)) ∙ not-false _ (c .before .before .before .before .before .before .before .before .before .before .before .before .before .before .before .if1 .left)) (c .before .before .before .before .before .before .before .before .before .before .before .before .before .before .if2 .left) (c .before .before .before .before .before .before .before .before .before .before .before .before .read-record .ensures) (not-false _ (c .before .before .before .before .before .before .before .before .before .before .before .if3 .left)) (rw (c .before .before .before .before .before .before .before .before .before .before .before .before .before .before .before .before .before .read-call .ensures) at (s .ensures)) (not-true _ (c .before .before .before .before .before .if4 .taken)) (owned-numbered (s .result .port) _ (s .ok .1 .1 .1 .0)) (c .before .before .write-record .ensures)
 
 same-length-5 : tie.Need-same-length-5
 same-length-5 c = search needs
@@ -74,7 +68,9 @@ same-length-6 : tie.Need-same-length-6
 same-length-6 c = search needs
 
 returns-5 : tie.Need-returns-5
-returns-5 c = call-refused _ _ _ (sym (c .before .before .before .before .before .before .before .before .before .before .before .is-readable .ensures ∙ ap isReadable (c .before .before .before .before .before .before .before .before .before .before .before .before .read-call .ensures)) ∙ not-false _ (c .before .before .before .before .before .before .before .before .before .before .if1 .left)) (c .before .before .before .before .before .before .before .before .before .if2 .left) (sym (ap (λ (r : Reading). r .readable) (c .before .before .before .before .before .before .before .read-record .ensures)) ∙ not-false _ (c .before .before .before .before .before .before .if3 .left)) (ap (λ (r : Reading). r .port) (c .before .before .before .before .before .before .before .read-record .ensures)) (rw (c .before .before .before .before .before .before .before .before .before .before .before .before .read-call .ensures) at (c .before .before .before .step .ensures)) (not-false _ (c .if4 .left))
+returns-5 c =
+    let s = c .before .before .before .step in
+    call-refused _ _ _ (sym (c .before .before .before .before .before .before .before .before .before .before .before .is-readable .ensures ∙ ap isReadable (c .before .before .before .before .before .before .before .before .before .before .before .before .read-call .ensures)) ∙ not-false _ (c .before .before .before .before .before .before .before .before .before .before .if1 .left)) (c .before .before .before .before .before .before .before .before .before .if2 .left) (c .before .before .before .before .before .before .before .read-record .ensures) (not-false _ (c .before .before .before .before .before .before .if3 .left)) (rw (c .before .before .before .before .before .before .before .before .before .before .before .before .read-call .ensures) at (s .ensures)) (not-false _ (c .if4 .left))
 
 pub call-spec : {M : Type 1} → statement M
 call-spec =
@@ -93,7 +89,6 @@ call-spec =
     same-length-2
     returns-3
     step-requires
-    plain-requires
     write-record-requires
     same-length-3
     same-length-4

@@ -1,7 +1,6 @@
--- `saved::saved::open` meets its contract.
+-- `saved::saved::open` meets its contract: by whether the buffer is long enough and the file is refused.
+use Rattle.recordbytes.proofs.Laws.{owned-numbered}
 use Rattle.saved.proofs.Reaching.{open-short, open-refused, open-done}
-use Rattle.machine.proofs.Places.{port-places}
-use Rattle.recordbytes.proofs.Laws.{port-fits}
 use borrow.Author.Needs.{needs}
 use Rattle.saved.proofs.saved.open.Statement.{statement}
 use Rattle.saved.proofs.saved.open.Tie as tie
@@ -18,8 +17,8 @@ open-file-requires c κs = search needs
 returns-2 : tie.Need-returns-2
 returns-2 c = open-refused _ _ (c .before .before .if1 .left) (c .before .open-file .ensures) (c .if2 .taken)
 
-plain-requires : tie.Need-plain-requires
-plain-requires c κs = search needs
+clear-requires : tie.Need-clear-requires
+clear-requires c κs = search needs
 
 write-record-requires : tie.Need-write-record-requires
 write-record-requires c κs = search needs
@@ -29,9 +28,8 @@ same-length c = search needs
 
 returns-3 : tie.Need-returns-3
 returns-3 c =
-    let o = c .before .before .before .before .before .before .before .open-file in
-    let q = c .before .before .before .plain in
-    open-done _ _ (c .before .before .before .before .before .before .before .before .if1 .left) (o .ensures) (c .before .before .before .before .before .before .if2 .left) (port-places (o .result .port) _ (o .ok .1 .1 .1 .0)) (port-fits (q .result) _ (q .ok)) (q .ensures) (c .before .before .write-record .ensures)
+    let o = c .before .before .before .before .before .before .before .before .before .before .open-file in
+    open-done _ _ (c .before .before .before .before .before .before .before .before .before .before .before .if1 .left) (o .ensures) (c .before .before .before .before .before .before .before .before .before .if2 .left) (owned-numbered (o .result .port) _ (o .ok .1 .1 .1 .0)) (c .before .before .before .before .before .before .before .clear .ensures) (c .before .before .write-record .ensures)
 
 pub open-spec : {M : Type 1} → statement M
 open-spec =
@@ -41,7 +39,7 @@ open-spec =
     returns
     open-file-requires
     returns-2
-    plain-requires
+    clear-requires
     write-record-requires
     same-length
     returns-3)

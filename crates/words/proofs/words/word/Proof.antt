@@ -1,8 +1,8 @@
--- `words::words::word` meets its contract.
+-- `words::words::word` meets its contract: where the last byte is there, both halves are.
+use mathlib.Core.Path.{sym}
 use native.Mathlib.Omega.{arith}
 use denote.Ref.{now}
-use Rattle.words.specs.Words.{wordAt}
-use Rattle.words.proofs.Fitting.{none-there}
+use Rattle.words.proofs.Fitting.{none-there, word-inside}
 use borrow.Author.Needs.{needs}
 use Rattle.words.proofs.words.word.Statement.{statement}
 use Rattle.words.proofs.words.word.Tie as tie
@@ -32,8 +32,7 @@ add-result : tie.Need-add-result
 add-result c = search needs
 
 returns-2 : tie.Need-returns-2
-unfolding wordAt
-returns-2 c = search needs
+returns-2 c = let s = c .before .before .before .before .args in rw (c .before .half .ensures .0, c .half2 .ensures .0) (sym (word-inside (now (s .s)) (s .k) (omega arith)))
 
 pub word-spec : {M : Type 1} → statement M
 word-spec =

@@ -1,2 +1,0 @@
--- What private functions promise each other.
-pub mod Steps

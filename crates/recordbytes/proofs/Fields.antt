@@ -1,0 +1,221 @@
+-- One field, row, frame, instant or wire: its words give it back, pass the test, and are those of what the test lets pass.
+use Prim.Native.Nat.{ℕ, _+_, _-_, _≤_, _<_, _^_}
+use mathlib.Core.Bool.{Bool, true, false, cond, _&&_}
+use mathlib.Core.List.{List, [], _∷_}
+use mathlib.Core.Path.{_≡_, refl, sym, _∙_, ap}
+use native.Mathlib.Omega.{arith}
+use lib.Dec.{leb, eqb}
+use lib.IntN.{ℤ, pos, negsuc}
+use lib.Signed.{mag}
+use borrow.Author.Tests.{le-leb, lt-leb, leb-true, leb-false, eq-eqb, eqb-true, eqb-false}
+use Rattle.table.specs.declared.Class.{Class}
+use Rattle.table.specs.declared.Class.the-variants.{A, B}
+use Rattle.table.specs.declared.Row.{Row}
+use Rattle.table.proofs.Laws.{and-true}
+use Rattle.machine.specs.declared.Frame.{Frame}
+use Rattle.machine.specs.declared.Wire.{Wire}
+use Rattle.machine.specs.declared.Wire.the-variants.{Free, Sending}
+use Rattle.machine.specs.State.{Instant, never, at}
+use Rattle.words.specs.Words.{Every, Word, Bytes, wordAt}
+use Rattle.words.proofs.Laws.{Held, word-small}
+use Rattle.recordbytes.specs.Record.{classWord, rowWords, signedWord, frameWords, lastWords, wireWords, u16Of, u32Of, classOf, signedOf, rowAt, frameAt, instantAt, wireAt, fitsU16, fitsU32, fitsMark, rowFits, frameFits, lastFits, wireFits}
+use Rattle.recordbytes.specs.Fits.{RowFits, FrameFits, InstantFits, WireFits}
+use Rattle.recordbytes.proofs.Lists.{both}
+
+-- ---- a field's word gives the field back, and passes the test
+pub u16-back : {w v : ℕ} → w ≡ v → v < 2 ^ 16 → u16Of w ≡ v
+u16-back e h = rw e (omega arith)
+
+pub u32-back : {w v : ℕ} → w ≡ v → v < 2 ^ 32 → u32Of w ≡ v
+u32-back e h = rw e (omega arith)
+
+pub u16-fits : {w v : ℕ} → w ≡ v → v < 2 ^ 16 → fitsU16 w ≡ true
+u16-fits {w} e h = le-leb w 65535 (omega arith)
+
+pub u32-fits : {w v : ℕ} → w ≡ v → v < 2 ^ 32 → fitsU32 w ≡ true
+u32-fits {w} e h = le-leb w 4294967295 (omega arith)
+
+class-back : (c : Class) {w : ℕ} → w ≡ classWord c → classOf w ≡ c
+class-back A e = rw e refl
+class-back B e = rw e refl
+
+class-fits : (c : Class) {w : ℕ} → w ≡ classWord c → fitsMark w ≡ true
+class-fits A e = rw e refl
+class-fits B e = rw e refl
+
+pub signed-back : (z : ℤ) {w : ℕ} → w ≡ signedWord z → mag z < 2 ^ 63 → signedOf w ≡ z
+signed-back (pos n) e h = rw (e, le-leb n 9223372036854775807 (omega arith)) refl
+signed-back (negsuc n) e h =
+    let big : 9223372036854775807 < 18446744073709551615 - n = omega arith in
+    let back : 18446744073709551615 - (18446744073709551615 - n) ≡ n = omega arith in
+    rw (e, lt-leb _ 9223372036854775807 big, back) refl
+
+-- ---- a word that passes is the word of the field that it gives
+pub u16-same : (w : ℕ) → fitsU16 w ≡ true → w ≡ u16Of w
+u16-same w e = omega (arith, leb-true w 65535 e)
+
+pub u32-same : (w : ℕ) → fitsU32 w ≡ true → w ≡ u32Of w
+u32-same w e = omega (arith, leb-true w 4294967295 e)
+
+class-same : (w : ℕ) → fitsMark w ≡ true → w ≡ classWord (classOf w)
+class-same w e = go (eqb w 0) refl
+  where
+    go : (b : Bool) → eqb w 0 ≡ b → w ≡ classWord (cond b A B)
+    go true z = eqb-true w 0 z
+    go false z = omega (arith, leb-true w 1 e, eqb-false w 0 z)
+
+pub signed-same : (w : ℕ) → Word w → w ≡ signedWord (signedOf w)
+signed-same w h = go (leb w 9223372036854775807)
+  where
+    go : (b : Bool) → w ≡ signedWord (cond b (pos w) (negsuc (18446744073709551615 - w)))
+    go true = refl
+    go false = omega arith
+
+pub signed-small : (w : ℕ) → Word w → mag (signedOf w) < 2 ^ 63
+signed-small w h = go (leb w 9223372036854775807) refl
+  where
+    go : (b : Bool) → leb w 9223372036854775807 ≡ b → mag (cond b (pos w) (negsuc (18446744073709551615 - w))) < 2 ^ 63
+    go true e = omega (arith, leb-true w 9223372036854775807 e)
+    go false e = omega (arith, leb-false w 9223372036854775807 e)
+
+pub signed-word : (z : ℤ) → mag z < 2 ^ 63 → Word (signedWord z)
+signed-word (pos n) h = omega arith
+signed-word (negsuc n) h = omega arith
+
+u16-small : (w : ℕ) → u16Of w < 2 ^ 16
+u16-small w = omega arith
+
+u32-small : (w : ℕ) → u32Of w < 2 ^ 32
+u32-small w = omega arith
+
+-- ---- the parts, in bytes s
+module _ (s : List ℕ) where
+  -- the places of a word's second and third neighbour
+  second : (k w : ℕ) → wordAt s (k + 1 + 1) ≡ w → wordAt s (k + 2) ≡ w
+  second k w h = let e : k + 1 + 1 ≡ k + 2 = omega arith in rw e at h
+
+  third : (k w : ℕ) → wordAt s (k + 1 + 1 + 1) ≡ w → wordAt s (k + 3) ≡ w
+  third k w h = let e : k + 1 + 1 + 1 ≡ k + 3 = omega arith in rw e at h
+
+  to-second : (k w : ℕ) → wordAt s (k + 2) ≡ w → wordAt s (k + 1 + 1) ≡ w
+  to-second k w h = let e : k + 1 + 1 ≡ k + 2 = omega arith in rw e h
+
+  to-third : (k w : ℕ) → wordAt s (k + 3) ≡ w → wordAt s (k + 1 + 1 + 1) ≡ w
+  to-third k w h = let e : k + 1 + 1 + 1 ≡ k + 3 = omega arith in rw e h
+
+  -- a row
+  pub row-words : (r : Row) → RowFits r → Every Word (rowWords r)
+  row-words r f = (class-word (r .class), (omega (arith, f .payload), (omega (arith, f .period), (omega (arith, f .deadline), tt))))
+    where
+      class-word : (c : Class) → Word (classWord c)
+      class-word A = omega arith
+      class-word B = omega arith
+
+  pub row-back : (r : Row) (k : ℕ) → RowFits r → Held s k (rowWords r) → rowAt s k ≡ r
+  row-back r k f h =
+      rw (
+        class-back (r .class) (h .0),
+        u16-back (h .1 .0) (f .payload),
+        u32-back (second k (r .period) (h .1 .1 .0)) (f .period),
+        u32-back (third k (r .deadline) (h .1 .1 .1 .0)) (f .deadline),
+      )
+      refl
+
+  pub row-fits : (r : Row) (k : ℕ) → RowFits r → Held s k (rowWords r) → rowFits s k ≡ true
+  row-fits r k f h =
+      both (both (class-fits (r .class) (h .0)) (u16-fits (h .1 .0) (f .payload)))
+      (both (u32-fits (second k (r .period) (h .1 .1 .0)) (f .period)) (u32-fits (third k (r .deadline) (h .1 .1 .1 .0)) (f .deadline)))
+
+  pub row-same : (k : ℕ) → rowFits s k ≡ true → Held s k (rowWords (rowAt s k))
+  row-same k e =
+      let p = and-true (fitsMark (wordAt s k) && fitsU16 (wordAt s (k + 1))) _ e in
+      let q = and-true (fitsMark (wordAt s k)) (fitsU16 (wordAt s (k + 1))) (p .0) in
+      let r = and-true (fitsU32 (wordAt s (k + 2))) (fitsU32 (wordAt s (k + 3))) (p .1) in
+      (class-same (wordAt s k) (q .0), (u16-same (wordAt s (k + 1)) (q .1), (to-second k _ (u32-same (wordAt s (k + 2)) (r .0)), (to-third k _ (u32-same (wordAt s (k + 3)) (r .1)), tt))))
+
+  pub row-small : (k : ℕ) → RowFits (rowAt s k)
+  row-small k = record { payload = u16-small (wordAt s (k + 1)); period = u32-small (wordAt s (k + 2)); deadline = u32-small (wordAt s (k + 3)) }
+
+  -- a frame
+  pub frame-words : (x : Frame) → FrameFits x → Every Word (frameWords x)
+  frame-words x f = (omega (arith, f .source), (omega (arith, f .size), (f .taken, tt)))
+
+  pub frame-back : (x : Frame) (k : ℕ) → FrameFits x → Held s k (frameWords x) → frameAt s k ≡ x
+  frame-back x k f h = rw (u32-back (h .0) (f .source), u32-back (h .1 .0) (f .size), second k (x .taken) (h .1 .1 .0)) refl
+
+  pub frame-fits : (x : Frame) (k : ℕ) → FrameFits x → Held s k (frameWords x) → frameFits s k ≡ true
+  frame-fits x k f h = both (u32-fits (h .0) (f .source)) (u32-fits (h .1 .0) (f .size))
+
+  pub frame-same : (k : ℕ) → frameFits s k ≡ true → Held s k (frameWords (frameAt s k))
+  frame-same k e =
+      let p = and-true (fitsU32 (wordAt s k)) (fitsU32 (wordAt s (k + 1))) e in
+      (u32-same (wordAt s k) (p .0), (u32-same (wordAt s (k + 1)) (p .1), (to-second k _ refl, tt)))
+
+  pub frame-small : Bytes s → (k : ℕ) → FrameFits (frameAt s k)
+  frame-small b k = record { source = u32-small (wordAt s k); size = u32-small (wordAt s (k + 1)); taken = word-small s b (k + 2) }
+
+  -- a last instant
+  pub last-words : (i : Instant) → InstantFits i → Every Word (lastWords i)
+  last-words never f = (omega arith, tt)
+  last-words (at k) f = (omega arith, (f, tt))
+
+  pub last-back : (i : Instant) (k : ℕ) → InstantFits i → Held s k (lastWords i) → instantAt s k ≡ i
+  last-back never k f h = rw (h .0) refl
+  last-back (at j) k f h = rw (h .0, h .1 .0) refl
+
+  pub last-fits : (i : Instant) (k : ℕ) → InstantFits i → Held s k (lastWords i) → lastFits s k ≡ true
+  last-fits never k f h = rw (h .0) refl
+  last-fits (at j) k f h = rw (h .0) refl
+
+  pub last-same : (k : ℕ) → lastFits s k ≡ true → Held s k (lastWords (instantAt s k))
+  last-same k e = go (eqb (wordAt s k) 1) refl
+    where
+      go : (b : Bool) → eqb (wordAt s k) 1 ≡ b → Held s k (lastWords (cond b (at (wordAt s (k + 1))) never))
+      go true z = (eqb-true (wordAt s k) 1 z, (refl, tt))
+      go false z = (omega (arith, leb-true (wordAt s k) 1 e, eqb-false (wordAt s k) 1 z), tt)
+
+  pub last-small : Bytes s → (k : ℕ) → InstantFits (instantAt s k)
+  last-small b k = go (eqb (wordAt s k) 1)
+    where
+      go : (c : Bool) → InstantFits (cond c (at (wordAt s (k + 1))) never)
+      go true = word-small s b (k + 1)
+      go false = tt
+
+  -- the wire
+  pub wire-words : (w : Wire) → WireFits w → Every Word (wireWords w)
+  wire-words Free f = (omega arith, tt)
+  wire-words (Sending x left) f = let g = frame-words x (f .0) in (omega arith, (g .0, (g .1 .0, (g .1 .1 .0, (omega (arith, f .1), tt)))))
+
+  -- where the words of a frame on the wire stand
+  on-wire : (x : Frame) (left k : ℕ) → Held s k (wireWords (Sending x left)) → Held s (k + 1) (frameWords x) × (wordAt s (k + 4) ≡ left)
+  on-wire x left k h = let e : k + 1 + 1 + 1 + 1 ≡ k + 4 = omega arith in ((h .1 .0, (h .1 .1 .0, (h .1 .1 .1 .0, tt))), rw e at (h .1 .1 .1 .1 .0))
+
+  pub wire-back : (w : Wire) (k : ℕ) → WireFits w → Held s k (wireWords w) → wireAt s k ≡ w
+  unfolding wireAt
+  wire-back Free k f h = rw (h .0) refl
+  wire-back (Sending x left) k f h = let p = on-wire x left k h in rw (h .0, frame-back x (k + 1) (f .0) (p .0), u32-back (p .1) (f .1)) refl
+
+  pub wire-fits : (w : Wire) (k : ℕ) → WireFits w → Held s k (wireWords w) → wireFits s k ≡ true
+  unfolding wireFits
+  wire-fits Free k f h = rw (h .0) refl
+  wire-fits (Sending x left) k f h = let p = on-wire x left k h in rw (h .0) (both (frame-fits x (k + 1) (f .0) (p .0)) (u32-fits (p .1) (f .1)))
+
+  pub wire-same : (k : ℕ) → wireFits s k ≡ true → Held s k (wireWords (wireAt s k))
+  unfolding wireFits wireAt
+  wire-same k e = go (eqb (wordAt s k) 1) refl e
+    where
+      go : (b : Bool) → eqb (wordAt s k) 1 ≡ b → cond b (frameFits s (k + 1) && fitsU32 (wordAt s (k + 4))) (eqb (wordAt s k) 0) ≡ true → Held s k (wireWords (cond b (Sending (frameAt s (k + 1)) (u32Of (wordAt s (k + 4)))) Free))
+      go true z f =
+          let p = and-true (frameFits s (k + 1)) (fitsU32 (wordAt s (k + 4))) f in
+          let q = frame-same (k + 1) (p .0) in
+          let i : k + 1 + 1 + 1 + 1 ≡ k + 4 = omega arith in
+          (eqb-true (wordAt s k) 1 z, (q .0, (q .1 .0, (q .1 .1 .0, (rw i (u32-same (wordAt s (k + 4)) (p .1)), tt)))))
+      go false z f = (eqb-true (wordAt s k) 0 f, tt)
+
+  pub wire-small : Bytes s → (k : ℕ) → WireFits (wireAt s k)
+  unfolding wireAt
+  wire-small b k = go (eqb (wordAt s k) 1)
+    where
+      go : (c : Bool) → WireFits (cond c (Sending (frameAt s (k + 1)) (u32Of (wordAt s (k + 4)))) Free)
+      go true = (frame-small b (k + 1), u32-small (wordAt s (k + 4)))
+      go false = tt

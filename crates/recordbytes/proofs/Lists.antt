@@ -1,0 +1,97 @@
+-- What holds of every element of a list, and tests of n things.
+use Prim.Native.Nat.{ℕ, zero, suc, _+_, _*_, _<_}
+use mathlib.Core.Bool.{Bool, true, false, _&&_}
+use mathlib.Core.List.{List, [], _∷_, _++_, map}
+use mathlib.Core.Path.{_≡_, refl, sym, _∙_}
+use native.Mathlib.Numerals.{add-one}
+use native.Mathlib.Omega.{arith}
+use lib.ListN.{length, take, replicate}
+use Rattle.table.proofs.Laws.{and-true}
+use Rattle.machine.specs.Record.{allTrue}
+use Rattle.words.specs.Words.{Every, gathered}
+use Rattle.words.proofs.Laws.{Held, HeldEach}
+use Rattle.recordbytes.specs.Record.{each}
+
+module _ {X : Type 0} (P : X → Type 0) where
+  pub every-append : (a b : List X) → Every P a → Every P b → Every P (a ++ b)
+  every-append [] b f g = g
+  every-append (x ∷ a) b f g = (f .0, every-append a b (f .1) g)
+
+  pub every-take : (n : ℕ) (xs : List X) → Every P xs → Every P (take n xs)
+  every-take zero xs f = tt
+  every-take (suc n) [] f = tt
+  every-take (suc n) (x ∷ xs) f = (f .0, every-take n xs (f .1))
+
+  pub every-same : (n : ℕ) (x : X) → P x → Every P (replicate n x)
+  every-same zero x h = tt
+  every-same (suc n) x h = (h, every-same n x h)
+
+  pub every-map : {Y : Type 0} (f : Y → X) (Q : Y → Type 0) → ((y : Y) → Q y → P (f y)) → (ys : List Y) → Every Q ys → Every P (map f ys)
+  every-map f Q g [] h = tt
+  every-map f Q g (y ∷ ys) h = (g y (h .0), every-map f Q g ys (h .1))
+
+-- tests that all hold
+abbrev pub Each : List Bool → Type 0
+Each [] = Unit {0}
+Each (b ∷ bs) = (b ≡ true) × Each bs
+
+pub each-true : (bs : List Bool) → allTrue bs ≡ true → Each bs
+each-true [] e = tt
+each-true (b ∷ bs) e = let p = and-true b (allTrue bs) e in (p .0, each-true bs (p .1))
+
+pub true-each : (bs : List Bool) → Each bs → allTrue bs ≡ true
+true-each [] h = refl
+true-each (b ∷ bs) h = rw (h .0) (true-each bs (h .1))
+
+pub both : {x y : Bool} → x ≡ true → y ≡ true → x && y ≡ true
+both e f = rw e f
+
+-- ---- tests of n things
+and-assoc : (x y z : Bool) → x && (y && z) ≡ (x && y) && z
+and-assoc true y z = refl
+and-assoc false y z = refl
+
+and-false : (x : Bool) → x && false ≡ false
+and-false true = refl
+and-false false = refl
+
+and-right : (x : Bool) → x && true ≡ x
+and-right true = refl
+and-right false = refl
+
+-- one thing more
+each-suc : (ok : ℕ → Bool) (size k i : ℕ) → each ok size k (suc i) ≡ (each ok size k i && ok (k + size * i))
+unfolding each
+each-suc ok size k zero = let z : k + size * 0 ≡ k = omega arith in rw z (and-right (ok k))
+each-suc ok size k (suc i) =
+    let z : k + size + size * i ≡ k + size * suc i = omega arith in
+    rw (each-suc ok size (k + size) i, z) (and-assoc (ok k) (each ok size (k + size) i) (ok (k + size * suc i)))
+
+pub each-none : (ok : ℕ → Bool) (size k : ℕ) → each ok size k 0 ≡ true
+unfolding each
+each-none ok size k = refl
+
+pub each-next : (ok : ℕ → Bool) (size k i : ℕ) → each ok size k i ≡ true → ok (k + size * i) ≡ true → each ok size k (i + 1) ≡ true
+each-next ok size k i e f = rw (add-one i) (each-suc ok size k i ∙ both e f)
+
+-- one that fails
+pub each-fails : (ok : ℕ → Bool) (size k i n : ℕ) → i < n → ok (k + size * i) ≡ false → each ok size k n ≡ false
+unfolding each
+each-fails ok size k i zero h e = absurd (omega arith)
+each-fails ok size k zero (suc n) h e = let z : k + size * 0 ≡ k = omega arith in rw (rw z at e) refl
+each-fails ok size k (suc i) (suc n) h e =
+    let z : k + size * suc i ≡ k + size + size * i = omega arith in
+    rw (each-fails ok size (k + size) i n (omega arith) (rw z at e)) (and-false (ok k))
+
+module _ {X : Type 0} (f : X → List ℕ) (size : ℕ) (s : List ℕ) (ok : ℕ → Bool) where
+  -- things that are held pass
+  pub held-each : (P : X → Type 0) → ((x : X) (k : ℕ) → P x → Held s k (f x) → ok k ≡ true) → (k : ℕ) (xs : List X) → Every P xs → HeldEach f size s k xs → each ok size k (length xs) ≡ true
+  unfolding each
+  held-each P fits k [] p h = refl
+  held-each P fits k (x ∷ xs) p h = both (fits x k (p .0) (h .0)) (held-each P fits (k + size) xs (p .1) (h .1))
+
+  -- things that pass are held
+  pub each-held : (at : ℕ → X) → ((k : ℕ) → ok k ≡ true → Held s k (f (at k))) → (k n : ℕ) → each ok size k n ≡ true → HeldEach f size s k (gathered at size k n)
+  unfolding each gathered
+  each-held at held k zero e = tt
+  each-held at held k (suc n) e = let p = and-true (ok k) (each ok size (k + size) n) e in (held k (p .0), each-held at held (k + size) n (p .1))
