@@ -1,4 +1,4 @@
-//! Prints the picture of one run of the specimen's port, docs/run.svg:
+//! Prints the picture of a run that brings a frame near its bound, docs/run.svg:
 //!
 //!     cargo run --manifest-path rust/Cargo.toml --example picture > docs/run.svg
 

@@ -1,266 +1,197 @@
-//! One run of the specimen's port, and its picture as an SVG. The numbers that
-//! the picture states are the simulator's.
+//! The picture of a run that brings a frame near its bound. The numbers that
+//! it states are the simulator's.
 
-use std::fmt::{Display, Write};
+mod run;
+mod svg;
 
-use simulator::{bounds, read, Class, Frame, Mark, Port, Refusal, Table};
+use run::Run;
+use simulator::table::D;
+use simulator::{Mark, Refusal};
+use svg::{Colours, Svg, BAR, DARK, MARGIN, WHITE};
 
-const SPECIMEN: &[u8] = include_bytes!("../../../../tables/specimen.avb");
-const TITLE: &str = "One run of the specimen port: every row is held up and ends within its bound";
+const NAME: &str = "tables/class-a-microphones.avb";
+const TABLE: &[u8] = include_bytes!("../../../../tables/class-a-microphones.avb");
 
 /// Byte-times in a microsecond: one is 8 ns.
 const MICROSECOND: f64 = 125.0;
 /// Byte-times, and credit, between two ticks of an axis.
-const TIME_STEP: u64 = 500;
-const CREDIT_STEP: i64 = 100_000_000;
+const TIME_STEP: usize = 500;
+const CREDIT_STEP: usize = 500_000_000;
 
 // Places, in pixels.
-const MARGIN: f64 = 24.0;
-const LEFT: f64 = 108.0;
-const WIRE: f64 = 131.0;
-const HALF_BAR: f64 = 15.0;
-const ZERO_LINE: f64 = 358.0;
-const LANES: f64 = 472.0;
-const LETTER: f64 = 7.5;
+const LEFT: f64 = 112.0;
+const FRAMES: f64 = 138.0;
+const LANE: f64 = 26.0;
+const ZERO_LINE: f64 = 546.0;
+const TERMS: f64 = 634.0;
+const HEIGHT: f64 = 796.0;
 
-const WHITE: &str = "#ffffff";
-const DARK: &str = "#333333";
 const THIN: &str = "#8a8f94";
-const GUIDE: &str = "#d5d8db";
-/// The colours of a ground and of the words on it.
-type Colours = (&'static str, &'static str);
-const BEST_EFFORT: Colours = ("#c9cdd1", DARK);
-const CLASS_A: Colours = ("#0b3c6f", WHITE);
-const CLASS_B: Colours = ("#d9730d", "#222222");
+const GUIDE: &str = "#c3c8cd";
+const WAITING: Colours = ("#e8edf2", DARK);
+const AHEAD: Colours = ("#8db4dc", DARK);
+const BLOCKING: Colours = ("#c3c8cd", DARK);
+const OWN: Colours = ("#0b3c6f", WHITE);
+const UNUSED: Colours = ("#f2b36b", DARK);
 
 fn x(clock: u64) -> f64 {
-    LEFT + 0.165 * clock as f64
+    LEFT + 0.25 * clock as f64
 }
 
 fn y(credit: i64) -> f64 {
-    ZERO_LINE - 0.38 * credit as f64 / 1e6
-}
-
-fn lane(row: usize) -> f64 {
-    LANES + 42.0 * row as f64
+    ZERO_LINE - 0.16 * credit as f64 / 1e6
 }
 
 fn millions(credit: i64) -> String {
     (credit as f64 / 1e6).to_string().replace('-', "−")
 }
 
-struct Run {
-    table: Table,
-    bounds: [u64; 32],
-    /// Each frame sent, with the clock at its end.
-    sent: Vec<(Frame, u64)>,
-    /// The credits of A and B at each clock from 0.
-    credits: [Vec<i64>; 2],
+/// Lines down from where a term of the bound begins or ends in the run.
+fn draw_guides(svg: &mut Svg, run: &Run) {
+    let (best, own, bound) = (run.best(), run.own(), run.bound);
+    let (top, bottom) = (FRAMES - 18.0, TERMS - BAR / 2.0);
+    for clock in [own.taken, best.begun, own.begun, own.ended] {
+        svg.line(&[(x(clock), top), (x(clock), bottom)], GUIDE, 1.0);
+    }
+    svg.line(&[(x(bound), top), (x(bound), bottom)], DARK, 2.0);
+    let microseconds = bound as f64 / MICROSECOND;
+    let words = format!("bound of row {}: {bound} = {microseconds} µs", run.row);
+    svg.tell("end", x(bound), top - 8.0, &words);
 }
 
-impl Run {
-    /// A best-effort frame starts at clock 0. One byte-time later every row is
-    /// offered its full payload. The run goes on until each bound has passed.
-    fn blocked(file: &[u8]) -> Result<Run, Refusal> {
-        let table = read(file)?;
-        let mut run = Run {
-            bounds: bounds(&table)?,
-            table,
-            sent: vec![],
-            credits: [vec![0], vec![0]],
+/// 1. Each frame: how long it waits, and when it is on the wire.
+fn draw_frames(svg: &mut Svg, run: &Run) {
+    svg.heading(FRAMES - 26.0, 13, "Frames waiting (light) and on the wire");
+    let mut lane = FRAMES;
+    for sent in &run.sent {
+        let (name, colours) = match sent.mark {
+            Mark::BestEffort => ("best effort".into(), BLOCKING),
+            Mark::Row(row) if row == run.row => (format!("row {row}"), OWN),
+            Mark::Row(row) => (format!("row {row}"), AHEAD),
         };
-        let mut port = Port::fresh(run.table.clone());
-        port.offer_best(run.table.best_payload)?;
-        run.byte_time(&mut port)?;
-        for (place, row) in (0..).zip(&run.table.rows) {
-            port.offer(place, row.payload)?;
-        }
-        let longest = run.bounds.into_iter().max().unwrap_or(0);
-        let end = (port.clock + longest).next_multiple_of(TIME_STEP);
-        while port.clock < end {
-            run.byte_time(&mut port)?;
-        }
-        Ok(run)
+        let (taken, begun, ended) = (sent.taken, sent.begun, sent.ended);
+        let waits = format!("waits {}", begun - taken);
+        svg.bar((x(taken), x(begun)), lane, WAITING, &waits);
+        let size = (ended - begun).to_string();
+        svg.bar((x(begun), x(ended)), lane, colours, &size);
+        svg.words("start", MARGIN, lane + 4.5, &name);
+        svg.told += &format!(" {name}: {waits}, on the wire from {begun} to {ended}.");
+        lane += LANE;
     }
-
-    fn byte_time(&mut self, port: &mut Port) -> Result<(), Refusal> {
-        let ended = port.advance(1)?.ended;
-        self.sent.extend(ended.map(|frame| (frame, port.clock)));
-        self.credits[0].push(port.credit_a);
-        self.credits[1].push(port.credit_b);
-        Ok(())
-    }
-
-    fn end(&self) -> u64 {
-        self.credits[0].len() as u64 - 1
-    }
-
-    fn name(&self, frame: Frame) -> (String, Colours) {
-        match frame.mark {
-            Mark::BestEffort => ("best effort".into(), BEST_EFFORT),
-            Mark::Row(row) => match self.table.rows[row].class {
-                Class::A => (format!("row {row}"), CLASS_A),
-                Class::B => (format!("row {row}"), CLASS_B),
-            },
-        }
-    }
+    let (begun, ended) = (run.best().begun, run.own().ended);
+    let (row, turn) = (run.row, begun + 1);
+    let words = format!("begins at {begun}: row {row} could go out at {turn}");
+    svg.tell("start", x(begun) + 8.0, lane - 3.0 * LANE + 4.5, &words);
+    let words = format!("ends at {ended}, {} before its bound", run.bound - ended);
+    svg.tell("end", x(ended), lane, &words);
 }
 
-/// What is drawn, and what is told to a reader who cannot see it.
-#[derive(Default)]
-struct Svg {
-    drawn: String,
-    told: String,
-}
-
-impl Svg {
-    fn line(&mut self, points: &[(f64, f64)], colour: &str, width: f64) {
-        let points = points.iter().map(|(x, y)| format!("{x:.1},{y:.1}"));
-        let points = points.collect::<Vec<_>>().join(" ");
-        let style = format!(r#"fill="none" stroke="{colour}" stroke-width="{width}""#);
-        writeln!(self.drawn, r#"<polyline points="{points}" {style}/>"#).unwrap();
-    }
-
-    /// Words that start at a point, have their middle there or end there.
-    fn words(&mut self, anchor: &str, x: f64, y: f64, words: impl Display) {
-        let place = format!(r#"x="{x:.1}" y="{y:.1}" text-anchor="{anchor}""#);
-        writeln!(self.drawn, "<text {place}>{words}</text>").unwrap();
-    }
-
-    /// Words with a white edge, which keeps a guide behind them off.
-    fn label(&mut self, anchor: &str, x: f64, y: f64, words: &str) {
-        let edge = format!(r#"stroke="{WHITE}" stroke-width="4""#);
-        self.words(anchor, x, y, format!("<tspan {edge}>{words}</tspan>"));
-        self.words(anchor, x, y, words);
-    }
-
-    fn heading(&mut self, y: f64, size: u32, words: &str) {
-        let style = format!(r#"font-size="{size}" font-weight="bold""#);
-        let words = format!("<tspan {style}>{words}</tspan>");
-        self.words("start", MARGIN, y, words);
-    }
-}
-
-/// 1. The wire, with a guide down from the end of each row's frame.
-fn draw_wire(svg: &mut Svg, run: &Run) {
-    svg.heading(WIRE - 39.0, 13, "On the wire");
-    for &(frame, ended) in &run.sent {
-        let (name, (ground, ink)) = run.name(frame);
-        let begun = ended - frame.size;
-        let (from, to, bottom) = (x(begun), x(ended), WIRE + HALF_BAR);
-        svg.line(&[(from, WIRE), (to, WIRE)], ground, 2.0 * HALF_BAR);
-        svg.line(&[(from, WIRE - HALF_BAR), (from, bottom)], WHITE, 1.0);
-        if let Mark::Row(row) = frame.mark {
-            svg.line(&[(to, bottom), (to, lane(row))], GUIDE, 1.0);
-        }
-        if LETTER * name.len() as f64 <= to - from {
-            let words = format!(r#"<tspan fill="{ink}">{name}</tspan>"#);
-            svg.words("middle", (from + to) / 2.0, WIRE + 4.5, words);
-        } else {
-            svg.words("middle", (from + to) / 2.0, WIRE - 21.0, &name);
-        }
-        svg.told += &format!(" On the wire from {begun} to {ended}: {name}.");
-    }
-}
-
-/// 2. The credits. A line ends where its class stays at 0.
-fn draw_credits(svg: &mut Svg, run: &Run) {
-    let all = run.credits.iter().flatten();
-    let steps = all.map(|credit| credit.div_euclid(CREDIT_STEP));
-    let low = CREDIT_STEP * steps.clone().min().unwrap_or(0);
-    let high = CREDIT_STEP * (steps.max().unwrap_or(0) + 1);
-    svg.heading(y(high) - 24.0, 13, "Credit, in millions");
+/// 2. The credit of the class.
+fn draw_credit(svg: &mut Svg, run: &Run) {
+    let (credit, own) = (&run.credit, run.own());
+    let low = credit.iter().copied().min().unwrap_or(0);
+    let high = credit.iter().copied().max().unwrap_or(0);
     svg.line(&[(LEFT, y(low)), (LEFT, y(high))], THIN, 1.0);
-    for tick in (low..=high).step_by(CREDIT_STEP as usize) {
+    for tick in (0..=high).step_by(CREDIT_STEP) {
         svg.line(&[(LEFT - 5.0, y(tick)), (LEFT, y(tick))], THIN, 1.0);
         svg.words("end", LEFT - 9.0, y(tick) + 4.5, millions(tick));
     }
-    svg.line(&[(LEFT, y(0)), (x(run.end()), y(0))], DARK, 1.0);
-    let a = (Class::A, "class A", CLASS_A, "end", -8.0);
-    let b = (Class::B, "class B", CLASS_B, "start", 8.0);
-    for ((class, name, colours, anchor, side), credits) in [a, b].into_iter().zip(&run.credits) {
-        let send = run.table.send(class) as i64;
-        let bend = |&t: &usize| credits[t] - credits[t - 1] != credits[t + 1] - credits[t];
-        let bends: Vec<usize> = (1..credits.len() - 1).filter(bend).collect();
-        let points = bends.iter().map(|&t| (x(t as u64), y(credits[t])));
-        svg.line(&points.collect::<Vec<_>>(), colours.0, 2.5);
-        for t in bends {
-            let (x, y, told) = (x(t as u64), y(credits[t]), millions(credits[t]));
-            let (anchor, x, y, words) = if Some(&credits[t]) == credits.iter().max() {
-                (anchor, x + side, y, format!("up to {told}"))
-            } else if credits[t] < 0 {
-                ("start", x + 8.0, y + 17.0, format!("down to {told}"))
-            } else if credits[t] - credits[t + 1] > send {
-                ("end", x - 8.0, y + 20.0, "no frame left, goes to 0".into())
-            } else {
-                continue;
-            };
-            svg.label(anchor, x, y, &format!("{name}: {words}"));
-            svg.told += &format!(" Credit of {name}, in millions: {words}.");
-        }
+    svg.line(&[(LEFT, y(0)), (x(run.bound), y(0))], THIN, 1.0);
+    let last = credit.len() - 1;
+    let bends = |&t: &usize| credit[t] - credit[t - 1] != credit[t + 1] - credit[t];
+    let mut points = vec![(LEFT, y(credit[0]))];
+    points.extend((1..last).filter(bends).map(|t| (x(t as u64), y(credit[t]))));
+    points.push((x(run.bound), y(credit[last])));
+    svg.line(&points, OWN.0, 2.0);
+
+    let (idle, send) = (run.figures.idle as i64, run.figures.send as i64);
+    let (idle, send, largest) = (millions(idle), millions(send), run.figures.largest);
+    let (low_told, high_told) = (millions(low), millions(high));
+    svg.heading(y(high) - 40.0, 13, "Credit of class A, in millions");
+    let words = format!(
+        "A class may send at credit 0 or more. A byte-time of waiting adds I = {idle}, \
+         one of sending takes S = D − I = {send} (D is 1)."
+    );
+    svg.tell("start", MARGIN, y(high) - 21.0, &words);
+    let words = format!("down to {low_told} (−S × L) when {largest} bytes have been sent");
+    svg.tell("start", LEFT + 8.0, y(low) + 18.0, &words);
+    let (row, pause) = (run.row, run.pause());
+    let words = format!("at 0 again {pause} byte-times later: the next goes out");
+    svg.tell("start", LEFT + 8.0, y(0) - 8.0, &words);
+    let words = format!("up to {high_told}: row {row} waits, but the wire is taken");
+    svg.tell("end", x(own.begun) - 16.0, y(high) + 4.5, &words);
+    let words = "no frame left: back to 0";
+    svg.tell("end", x(own.ended) - 8.0, y(0) - 8.0, words);
+}
+
+/// 3. The terms of the bound, each where it stands in the run.
+fn draw_terms(svg: &mut Svg, run: &Run) {
+    let (class, row, own, pause) = (run.figures, run.row, run.own(), run.pause());
+    let (bound, size, largest) = (run.bound, own.ended - own.begun, class.largest);
+    let ahead = D * (class.sum - size) / class.idle;
+    let debt = bound - size - class.blocking - ahead;
+    let formula = "C + H + (D × (sum of C − C) + S × L) / I";
+    let words = format!("The bound of row {row}: {formula} = {bound}");
+    svg.heading(TERMS - 28.0, 13, &words);
+    let terms = [
+        ("D × (sum of C − C) / I", ahead, AHEAD),
+        ("H", class.blocking, BLOCKING),
+        ("C", size, OWN),
+        ("S × L / I", debt, UNUSED),
+    ];
+    let meanings = [
+        format!(
+            "the frames ahead: {row} times {largest} bytes \
+             and {pause} byte-times until the credit is at 0 again"
+        ),
+        format!("blocking: a full best-effort frame, begun one byte-time before row {row}'s turn"),
+        "the frame's own bytes".into(),
+        "a debt of credit, had a largest frame been sent just before: \
+         here none was, so this is left over"
+            .into(),
+    ];
+    let (mut from, mut line) = (own.taken, TERMS + 78.0);
+    for ((term, value, colours), meaning) in terms.into_iter().zip(meanings) {
+        let to = from + value;
+        svg.bar((x(from), x(to)), TERMS, colours, &value.to_string());
+        let square = [(MARGIN, line - 4.5), (MARGIN + 12.0, line - 4.5)];
+        svg.line(&square, colours.0, 12.0);
+        svg.tell("start", MARGIN + 20.0, line, &format!("{term} = {value}"));
+        svg.tell("start", MARGIN + 232.0, line, &meaning);
+        from = to;
+        line += 21.0;
     }
 }
 
-/// 3. For each row the time from the instant taken to the bound.
-fn draw_bounds(svg: &mut Svg, run: &Run) {
-    svg.heading(LANES - 42.0, 13, "From the instant taken to the bound");
-    for &(frame, ended) in &run.sent {
-        let Mark::Row(row) = frame.mark else { continue };
-        let (name, (colour, _)) = run.name(frame);
-        let (y, bound, class) = (lane(row), run.bounds[row], run.table.rows[row].class);
-        let (from, to) = (x(frame.instant), x(frame.instant + bound));
-        svg.words("start", MARGIN, y + 4.5, format!("{name} ({class:?})"));
-        svg.line(&[(from, y), (to, y)], THIN, 1.0);
-        svg.line(&[(from, y - 6.0), (from, y + 6.0)], DARK, 1.5);
-        svg.line(&[(to, y - 6.0), (to, y + 6.0)], DARK, 1.5);
-        svg.line(&[(from, y), (x(ended), y)], colour, 4.0);
-        svg.line(&[(x(ended), y - 6.0), (x(ended), y + 6.0)], colour, 8.0);
-        let passed = ended - frame.instant;
-        let words = format!("ended after {passed} of {bound} byte-times");
-        svg.words("start", from + 6.0, y - 9.0, &words);
-        svg.told += &format!(" The frame of {name} {words}.");
-        let words = format!("bound {bound} = {} µs", bound as f64 / MICROSECOND);
-        svg.label("end", to, y - 9.0, &words);
-    }
-}
-
-fn draw_time(svg: &mut Svg, run: &Run, y: f64) {
-    svg.line(&[(LEFT, y), (x(run.end()), y)], THIN, 1.0);
-    svg.words("start", MARGIN, y + 19.0, "byte-times");
-    svg.words("start", MARGIN, y + 36.0, "µs");
-    for clock in (0..=run.end()).step_by(TIME_STEP as usize) {
+fn draw_time(svg: &mut Svg, end: u64, y: f64) {
+    svg.line(&[(LEFT, y), (x(end), y)], THIN, 1.0);
+    svg.words("start", MARGIN, y + 18.0, "byte-times");
+    svg.words("start", MARGIN, y + 35.0, "µs");
+    for clock in (0..=end).step_by(TIME_STEP) {
         svg.line(&[(x(clock), y), (x(clock), y + 5.0)], THIN, 1.0);
-        svg.words("middle", x(clock), y + 19.0, clock);
-        svg.words("middle", x(clock), y + 36.0, clock as f64 / MICROSECOND);
+        svg.words("middle", x(clock), y + 18.0, clock);
+        svg.words("middle", x(clock), y + 35.0, clock as f64 / MICROSECOND);
     }
 }
 
 pub fn picture() -> Result<String, Refusal> {
-    let run = Run::blocked(SPECIMEN)?;
-    let axis = lane(run.table.rows.len()) - 16.0;
-    let height = axis + 52.0;
-    let ((best, ended), (row, _)) = (run.sent[0], run.sent[1]);
-    let (begun, taken) = (ended - best.size, row.instant);
-    let caption = format!(
-        "All rows are taken at byte-time {taken}, just after a best-effort frame began at {begun}. \
-         Credit grows while a class waits, falls while it sends."
-    );
+    let run = Run::of(TABLE)?;
+    let (own, row, bound) = (run.own(), run.row, run.bound);
+    let age = own.ended - own.taken;
+    let title = format!("A frame near its bound: it ends after {age} of {bound} byte-times");
     let mut svg = Svg::default();
-    svg.heading(36.0, 18, TITLE);
-    svg.words("start", MARGIN, 60.0, &caption);
-    draw_wire(&mut svg, &run);
-    draw_credits(&mut svg, &run);
-    draw_bounds(&mut svg, &run);
-    draw_time(&mut svg, &run, axis);
-    let Svg { drawn, told } = svg;
-    Ok(format!(
-        r#"<svg xmlns="http://www.w3.org/2000/svg" width="960" height="{height}" viewBox="0 0 960 {height}" role="img" aria-labelledby="title desc">
-<title id="title">{TITLE}</title>
-<desc id="desc">{caption}{told}</desc>
-<rect width="960" height="{height}" fill="{WHITE}"/>
-<g font-family="sans-serif" font-size="13" fill="{DARK}" stroke-linejoin="round">
-{drawn}</g>
-</svg>
-"#
-    ))
+    svg.heading(36.0, 18, &title);
+    let words = format!("Every row of {NAME} is offered a frame at 0, row {row} last.");
+    svg.tell("start", MARGIN, 60.0, &words);
+    let words = format!(
+        "One byte-time before its turn a best-effort frame begins. \
+         So row {row}'s frame waits for all that its bound counts but the last term."
+    );
+    svg.tell("start", MARGIN, 78.0, &words);
+    draw_guides(&mut svg, &run);
+    draw_frames(&mut svg, &run);
+    draw_credit(&mut svg, &run);
+    draw_terms(&mut svg, &run);
+    draw_time(&mut svg, bound, TERMS + 14.0);
+    Ok(svg.file(HEIGHT, &title))
 }
