@@ -9,7 +9,9 @@ fn main() {
     let archive = folder.join("libithumeco.a");
     println!("cargo::rerun-if-changed={}", archive.display());
     if !archive.exists() {
-        println!("cargo::error=target/staticlib/libithumeco.a is missing: run `rt staticlib ithumeco`");
+        println!(
+            "cargo::error=target/staticlib/libithumeco.a is missing: run `rt staticlib ithumeco`"
+        );
         return;
     }
     println!("cargo::rustc-link-search=native={}", folder.display());
