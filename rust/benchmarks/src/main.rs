@@ -4,9 +4,10 @@
 mod clock;
 mod tables;
 
+use cases::specimen;
 use clock::{compare, Compared};
-use ithumeco::{Call, ANSWER_SIZE, BOUNDS_SIZE, CALL_SIZE};
-use simulator::Port;
+use ithumeco::{list_bytes, ANSWER_SIZE, BOUNDS_SIZE};
+use simulator::{opened, Call, Port};
 
 /// A line of the table: what was measured, what it should stay below in
 /// nanoseconds and as a ratio.
@@ -20,16 +21,10 @@ struct Line {
 /// Makes the calls on a fresh port of the simulator, and gives the byte-times
 /// passed.
 fn simulate(file: &[u8], calls: &[Call]) -> u64 {
-    let table = simulator::read(file).expect("the file reads");
-    simulator::open(&table).expect("the table opens");
-    let mut port = Port::fresh(table);
+    let mut port = Port::fresh(opened(file).expect("the file opens"));
     for call in calls {
         // A refusal is an answer too.
-        let _ = match *call {
-            Call::Offer(row, payload) => port.offer(row, payload),
-            Call::OfferBest(payload) => port.offer_best(payload),
-            Call::Advance(n) => port.advance(n).map(|_| ()),
-        };
+        let _ = port.make(*call);
     }
     port.clock
 }
@@ -41,8 +36,7 @@ fn by_byte_time(file: &[u8], calls: &[Call]) -> Compared {
 
 /// A list of calls on the library and on the simulator, by so many units.
 fn replayed(file: &[u8], calls: &[Call], units: u64) -> Compared {
-    let bytes: Vec<u8> = calls.iter().flat_map(|call| call.bytes()).collect();
-    assert_eq!(bytes.len(), calls.len() * CALL_SIZE);
+    let bytes = list_bytes(calls);
     let mut answers = vec![0; calls.len() * ANSWER_SIZE];
     compare(
         units,
@@ -61,7 +55,7 @@ fn repeated(calls: &[Call], times: usize) -> Vec<Call> {
 }
 
 fn lines() -> Vec<Line> {
-    let three = tables::specimen();
+    let three = specimen::FILE;
     let many = tables::of_32_rows();
     let line = |name, compared, below_ns, below_ratio| Line {
         name,

@@ -2,21 +2,14 @@
 //! the simulator.
 
 use ithumeco::{
-    put_words, words, Answer, Call, Record, ANSWER_SIZE, BEST_EFFORT, BOUNDS_SIZE, CALL_SIZE,
-    RECORD_SIZE,
+    put_words, words, Answer, Record, ANSWER_SIZE, BOUNDS_SIZE, CALL_SIZE, RECORD_SIZE,
 };
-use simulator::{Frame, Mark, Port, Refusal, Table};
+use simulator::refusal::refuse;
+use simulator::{opened, Call, Port, Refusal};
 
 use crate::readable::port_of;
 
 pub type Outcome = Result<(), Refusal>;
-
-fn refuse(number: u8, place: usize) -> Outcome {
-    Err(Refusal {
-        number,
-        place: place as u64,
-    })
-}
 
 /// 103, a buffer with too little room.
 fn room(buffer: &[u8], size: usize) -> Outcome {
@@ -24,13 +17,6 @@ fn room(buffer: &[u8], size: usize) -> Outcome {
         return refuse(103, 0);
     }
     Ok(())
-}
-
-/// The table of a file that reading and opening let pass.
-pub fn opened(file: &[u8]) -> Result<Table, Refusal> {
-    let table = simulator::read(file)?;
-    simulator::open(&table)?;
-    Ok(table)
 }
 
 pub fn rewrite(file: &[u8], copy: &mut [u8]) -> Outcome {
@@ -65,7 +51,7 @@ pub fn replay(file: &[u8], calls: &[u8], answers: &mut [u8]) -> Outcome {
     room(answers, calls.len() * ANSWER_SIZE)?;
     let mut port = Port::fresh(opened(file)?);
     for (call, place) in calls.iter().flatten().zip(answers.chunks_mut(ANSWER_SIZE)) {
-        place.copy_from_slice(&answer(&mut port, *call).bytes());
+        place.copy_from_slice(&Answer::from(port.make(*call)).bytes());
     }
     Ok(())
 }
@@ -90,7 +76,7 @@ fn answer_on(saved: &mut [u8], call: Call) -> Answer {
     let Some(mut port) = port_of(&before) else {
         return broken;
     };
-    let said = answer(&mut port, call);
+    let said = Answer::from(port.make(call));
     if said.number == 0 {
         let mut after = Record::from(&port);
         // The table stands whole: its places not in use are kept.
@@ -110,31 +96,5 @@ pub fn call_of(bytes: &[u8]) -> Option<Call> {
         [1, payload, 0] => Some(Call::OfferBest(payload)),
         [2, n, 0] => Some(Call::Advance(n)),
         _ => None,
-    }
-}
-
-/// The simulator's answer to a call.
-pub fn answer(port: &mut Port, call: Call) -> Answer {
-    let said = match call {
-        Call::Offer(row, payload) => port.offer(row, payload).map(|()| Answer::TAKEN),
-        Call::OfferBest(payload) => port.offer_best(payload).map(|()| Answer::TAKEN),
-        Call::Advance(n) => port.advance(n).map(|advance| match advance.ended {
-            Some(frame) => reported(advance.passed, frame),
-            None => Answer::passed(advance.passed),
-        }),
-    };
-    said.unwrap_or_else(|refusal| Answer::refused(refusal.number.into()))
-}
-
-fn reported(passed: u64, frame: Frame) -> Answer {
-    Answer {
-        number: 0,
-        passed,
-        source: match frame.mark {
-            Mark::Row(row) => row as u64,
-            Mark::BestEffort => BEST_EFFORT,
-        },
-        size: frame.size,
-        taken: frame.instant,
     }
 }

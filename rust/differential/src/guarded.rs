@@ -18,8 +18,9 @@ impl Guarded {
     pub fn new(content: &[u8], shift: usize) -> Guarded {
         let from = GUARD + shift;
         let to = from + content.len();
-        let mut bytes: Vec<u8> = (0..to + GUARD).map(guard).collect();
-        bytes[from..to].copy_from_slice(content);
+        let mut bytes: Vec<u8> = (0..from).map(guard).collect();
+        bytes.extend(content);
+        bytes.extend((to..to + GUARD).map(guard));
         Guarded { bytes, from, to }
     }
 

@@ -1,12 +1,6 @@
-//! What the tests of the static library are made of: tables, files and lists
-//! of calls from a deterministic generator, and what the library must answer
-//! by the simulator.
+//! What the library must answer by the simulator, and buffers that show a write
+//! outside them.
 
-pub mod driver;
 pub mod expected;
-pub mod files;
 pub mod guarded;
-pub mod random;
 pub mod readable;
-pub mod tables;
-pub mod traffic;

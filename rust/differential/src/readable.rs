@@ -2,7 +2,7 @@
 
 use std::collections::VecDeque;
 
-use ithumeco::{FrameWords, QueueWords, Record, RowWords, WireWords, BEST_EFFORT};
+use ithumeco::{FrameWords, QueueWords, Record, RowWords, WireWords};
 use simulator::{Class, Frame, Mark, Port, Row, Table, Wire};
 
 const U16: u64 = u16::MAX as u64;
@@ -88,10 +88,7 @@ fn row_of(row: &RowWords) -> Row {
 
 fn frame_of(frame: &FrameWords) -> Frame {
     Frame {
-        mark: match frame.source {
-            BEST_EFFORT => Mark::BestEffort,
-            row => Mark::Row(row as usize),
-        },
+        mark: Mark::of(frame.source),
         size: frame.size,
         instant: frame.taken,
     }

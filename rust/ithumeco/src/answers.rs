@@ -1,24 +1,22 @@
 //! An answer as bytes.
 
+use simulator::port::NO_FRAME;
+use simulator::refusal::refuse;
+use simulator::{Advance, Frame, Mark, Refusal};
+
 use crate::words::{put_words, words};
 
 /// The size of an answer in bytes.
 pub const ANSWER_SIZE: usize = 40;
 
-/// The source of a best-effort frame.
-pub const BEST_EFFORT: u64 = 32;
-
-/// The source where no frame ended.
-pub const NO_FRAME: u64 = 33;
-
-/// The answer to a call.
+/// The words of an answer. Each may hold any value.
 #[derive(Clone, Copy, Debug, PartialEq, Eq)]
 pub struct Answer {
     /// The refusal's number, or 0.
     pub number: u64,
     /// The byte-times passed.
     pub passed: u64,
-    /// The ended frame's row, or a mark.
+    /// The ended frame's row; 32 for best effort, 33 where no frame ended.
     pub source: u64,
     /// The ended frame's wire size.
     pub size: u64,
@@ -49,6 +47,22 @@ impl Answer {
         }
     }
 
+    /// What the words say.
+    pub fn said(self) -> Result<Advance, Refusal> {
+        if self.number != 0 {
+            return refuse(self.number as u8, 0);
+        }
+        let frame = Frame {
+            mark: Mark::of(self.source),
+            size: self.size,
+            instant: self.taken,
+        };
+        Ok(Advance {
+            passed: self.passed,
+            ended: (self.source != NO_FRAME).then_some(frame),
+        })
+    }
+
     pub fn from_bytes(bytes: &[u8; ANSWER_SIZE]) -> Answer {
         let mut words = words(bytes);
         let mut next = || words.next().expect("five words");
@@ -73,5 +87,20 @@ impl Answer {
         let mut bytes = [0; ANSWER_SIZE];
         put_words(&words, &mut bytes);
         bytes
+    }
+}
+
+impl From<Result<Advance, Refusal>> for Answer {
+    fn from(said: Result<Advance, Refusal>) -> Answer {
+        match said {
+            Err(refusal) => Answer::refused(refusal.number.into()),
+            Ok(Advance { passed, ended }) => ended.map_or(Answer::passed(passed), |frame| Answer {
+                number: 0,
+                passed,
+                source: frame.mark.number(),
+                size: frame.size,
+                taken: frame.instant,
+            }),
+        }
     }
 }

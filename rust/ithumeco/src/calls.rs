@@ -1,30 +1,24 @@
 //! A call as bytes.
 
+use simulator::Call;
+
 use crate::words::put_words;
 
 /// The size of a call in bytes.
 pub const CALL_SIZE: usize = 24;
 
-/// A call on a port.
-#[derive(Clone, Copy, Debug, PartialEq, Eq)]
-pub enum Call {
-    /// An offer to a row: row, payload.
-    Offer(u64, u64),
-    /// An offer of best effort: payload.
-    OfferBest(u64),
-    /// An advance by a count of byte-times.
-    Advance(u64),
+pub fn call_bytes(call: Call) -> [u8; CALL_SIZE] {
+    let words = match call {
+        Call::Offer(row, payload) => [0, row, payload],
+        Call::OfferBest(payload) => [1, payload, 0],
+        Call::Advance(n) => [2, n, 0],
+    };
+    let mut bytes = [0; CALL_SIZE];
+    put_words(&words, &mut bytes);
+    bytes
 }
 
-impl Call {
-    pub fn bytes(self) -> [u8; CALL_SIZE] {
-        let words = match self {
-            Call::Offer(row, payload) => [0, row, payload],
-            Call::OfferBest(payload) => [1, payload, 0],
-            Call::Advance(n) => [2, n, 0],
-        };
-        let mut bytes = [0; CALL_SIZE];
-        put_words(&words, &mut bytes);
-        bytes
-    }
+/// The bytes of a list of calls.
+pub fn list_bytes(calls: &[Call]) -> Vec<u8> {
+    calls.iter().copied().flat_map(call_bytes).collect()
 }

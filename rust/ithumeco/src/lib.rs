@@ -7,10 +7,10 @@ mod library;
 mod records;
 mod words;
 
-pub use answers::{Answer, ANSWER_SIZE, BEST_EFFORT, NO_FRAME};
-pub use calls::{Call, CALL_SIZE};
+pub use answers::{Answer, ANSWER_SIZE};
+pub use calls::{call_bytes, list_bytes, CALL_SIZE};
 pub use library::{bounds, call, open, replay, rewrite, BOUNDS_SIZE};
 pub use records::{
     FrameWords, LastWords, QueueWords, Record, RowWords, WireWords, RECORD_SIZE, RECORD_WORDS,
 };
-pub use words::{put_words, words};
+pub use words::{put_words, words, WORD_SIZE};

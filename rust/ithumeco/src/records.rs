@@ -1,8 +1,7 @@
 //! A port record as bytes.
 
-use simulator::{Class, Frame, Mark, Port, Wire};
+use simulator::{Class, Frame, Port, Wire};
 
-use crate::answers::BEST_EFFORT;
 use crate::words::{put_words, words, WORD_SIZE};
 
 /// The size of a record in words.
@@ -161,10 +160,7 @@ impl Record {
 
 fn frame_words(frame: &Frame) -> FrameWords {
     FrameWords {
-        source: match frame.mark {
-            Mark::Row(row) => row as u64,
-            Mark::BestEffort => BEST_EFFORT,
-        },
+        source: frame.mark.number(),
         size: frame.size,
         taken: frame.instant,
     }

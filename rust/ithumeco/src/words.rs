@@ -1,7 +1,7 @@
 //! Words of 64 bits as bytes, little-endian.
 
 /// The size of a word in bytes.
-pub(crate) const WORD_SIZE: usize = 8;
+pub const WORD_SIZE: usize = 8;
 
 /// Words at the front of a buffer that has room for them.
 pub fn put_words(words: &[u64], out: &mut [u8]) {

@@ -1,10 +1,11 @@
 //! Document 01's facts (d), (e) and (g) on the specimen port, through the
 //! static library. The numbers are the document's.
 
-use ithumeco::{call, open, replay, Answer, Call, Record, ANSWER_SIZE, RECORD_SIZE};
-
-/// The specimen's table file.
-const SPECIMEN: &[u8] = include_bytes!("../../../tables/specimen.avb");
+use cases::specimen::FILE;
+use ithumeco::{
+    call, call_bytes, list_bytes, open, replay, Answer, Record, ANSWER_SIZE, RECORD_SIZE,
+};
+use simulator::Call;
 
 /// The answer to an advance in which a frame ended.
 fn ended(passed: u64, source: u64, size: u64, taken: u64) -> Answer {
@@ -20,17 +21,16 @@ fn ended(passed: u64, source: u64, size: u64, taken: u64) -> Answer {
 /// Makes the calls as a list and one by one, holds the answers of both to the
 /// document's, and gives the credit of A that the calls lead to.
 fn credit_a_after(steps: &[(Call, Answer)]) -> i64 {
-    let calls: Vec<u8> = steps.iter().flat_map(|(call, _)| call.bytes()).collect();
+    let (calls, expected): (Vec<Call>, Vec<Answer>) = steps.iter().copied().unzip();
     let mut answers = vec![0; ANSWER_SIZE * steps.len()];
-    assert_eq!(replay(SPECIMEN, &calls, &mut answers), Ok(()));
-    let expected: Vec<Answer> = steps.iter().map(|(_, answer)| *answer).collect();
+    assert_eq!(replay(&FILE, &list_bytes(&calls), &mut answers), Ok(()));
     assert_eq!(Answer::list(&answers).collect::<Vec<_>>(), expected);
 
     let mut record = [0; RECORD_SIZE];
-    assert_eq!(open(SPECIMEN, &mut record), Ok(()));
+    assert_eq!(open(&FILE, &mut record), Ok(()));
     for (made, expected) in steps {
         let mut answer = [0; ANSWER_SIZE];
-        assert_eq!(call(&mut record, &made.bytes(), &mut answer), Ok(()));
+        assert_eq!(call(&mut record, &call_bytes(*made), &mut answer), Ok(()));
         assert_eq!(Answer::from_bytes(&answer), *expected, "{made:?}");
     }
     Record::from_bytes(&record).credit_a as i64

@@ -25,10 +25,10 @@ const UNUSED_BITS: u8 = 0b0111_1000;
 const CLASS_B_BIT: u8 = 1 << 7;
 
 /// "Defaults: payload 42"
-const DEFAULT_PAYLOAD: u64 = 42;
+pub const DEFAULT_PAYLOAD: u64 = 42;
 
 /// "period 15,625 for A (125 µs), 31,250 for B"
-fn default_period(class: Class) -> u64 {
+pub fn default_period(class: Class) -> u64 {
     match class {
         Class::A => 15_625,
         Class::B => 31_250,
@@ -166,8 +166,14 @@ pub fn write(table: &Table, buffer: &mut [u8]) -> Result<usize, Refusal> {
     Ok(file.len())
 }
 
-/// The bytes of a table whose row count and values are in range.
-fn file_of(table: &Table) -> Vec<u8> {
+/// The file of a table. Of values out of range it has what their fields hold.
+pub fn file_of(table: &Table) -> Vec<u8> {
+    file_stating(table, || false)
+}
+
+/// The same, with a field that has its default where `stated` says so. Reading
+/// refuses such a field.
+pub fn file_stating(table: &Table, mut stated: impl FnMut() -> bool) -> Vec<u8> {
     let mut file = Vec::new();
     file.extend_from_slice(LETTERS);
     file.extend_from_slice(&(table.idle_a as u32).to_be_bytes());
@@ -181,15 +187,15 @@ fn file_of(table: &Table) -> Vec<u8> {
         if row.class == Class::B {
             map |= CLASS_B_BIT;
         }
-        if row.payload != DEFAULT_PAYLOAD {
+        if row.payload != DEFAULT_PAYLOAD || stated() {
             map |= PAYLOAD_BIT;
             file.extend_from_slice(&(row.payload as u16).to_be_bytes());
         }
-        if row.period != default_period(row.class) {
+        if row.period != default_period(row.class) || stated() {
             map |= PERIOD_BIT;
             file.extend_from_slice(&(row.period as u32).to_be_bytes());
         }
-        if row.deadline != row.period {
+        if row.deadline != row.period || stated() {
             map |= DEADLINE_BIT;
             file.extend_from_slice(&(row.deadline as u32).to_be_bytes());
         }

@@ -4,14 +4,16 @@
 //! The simulator follows the rules of the full scope one by one. In the
 //! modules each rule stands in quotation marks above the lines that do it.
 
+pub mod call;
 pub mod file;
 pub mod port;
 pub mod programs;
 pub mod refusal;
 pub mod table;
 
-pub use file::{read, write};
+pub use call::{Call, TAKEN};
+pub use file::{file_of, read, write};
 pub use port::{broken, Advance, Frame, Mark, Port, Wire};
-pub use programs::{portrun, portsheet};
+pub use programs::{opened, portrun, portsheet};
 pub use refusal::Refusal;
 pub use table::{bounds, open, wire_size, Class, Row, Table};

@@ -17,11 +17,33 @@ pub const MOST_ADVANCE: u64 = 65_535;
 /// The smallest wire size.
 pub const LEAST_SIZE: u64 = 84;
 
+/// "ended frame's row (32 best effort, 33 none)"
+pub const BEST_EFFORT: u64 = 32;
+pub const NO_FRAME: u64 = 33;
+
 /// A frame's "row or best-effort mark".
 #[derive(Clone, Copy, Debug, PartialEq, Eq)]
 pub enum Mark {
     Row(usize),
     BestEffort,
+}
+
+impl Mark {
+    /// The number that stands for a mark.
+    pub fn number(self) -> u64 {
+        match self {
+            Mark::Row(row) => row as u64,
+            Mark::BestEffort => BEST_EFFORT,
+        }
+    }
+
+    /// The mark that a number stands for.
+    pub fn of(number: u64) -> Mark {
+        match number {
+            BEST_EFFORT => Mark::BestEffort,
+            row => Mark::Row(row as usize),
+        }
+    }
 }
 
 /// "A frame has its row or best-effort mark, wire size and instant taken."

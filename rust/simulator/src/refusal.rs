@@ -18,7 +18,7 @@ impl fmt::Display for Refusal {
 }
 
 /// A refusal at a place.
-pub(crate) fn refuse<T>(number: u8, place: usize) -> Result<T, Refusal> {
+pub fn refuse<T>(number: u8, place: usize) -> Result<T, Refusal> {
     Err(Refusal {
         number,
         place: place as u64,

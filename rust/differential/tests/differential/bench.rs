@@ -1,16 +1,25 @@
 //! Runs the library and the simulator on equal buffers, holds one to the other
 //! and counts.
 
-use differential::driver::Driver;
+use cases::driver::Driver;
+use cases::random::Random;
+use cases::watch::Watch;
 use differential::expected::{self, call_of, Outcome};
 use differential::guarded::Guarded;
-use differential::random::Random;
-use ithumeco::{words, Answer, CALL_SIZE};
+use ithumeco::{list_bytes, words, Answer, BOUNDS_SIZE, CALL_SIZE};
+use simulator::file_of;
 
 use crate::tally::Counts;
 
 /// A call of the library that fills a buffer from a table file.
 type FileCall = fn(&[u8], &mut [u8]) -> Outcome;
+
+/// A row's frame that was reported ended.
+pub struct Reported {
+    pub row: usize,
+    pub age: u64,
+    pub bound: u64,
+}
 
 pub struct Bench {
     factor: usize,
@@ -96,17 +105,32 @@ impl Bench {
     }
 
     /// A list that the simulator has played, with some bytes of room more than
-    /// the answers need. Gives the library's answers.
-    pub fn replay_played(&mut self, file: &[u8], driver: &Driver, more: usize) -> Vec<u8> {
-        let written = driver.answers.len();
+    /// the answers need. The library's answers are held to the simulator's, and
+    /// to demand 3 by the library's bounds. Gives the frames of rows.
+    pub fn replay_played(&mut self, driver: &Driver, more: usize) -> Vec<Reported> {
+        let table = &driver.port.table;
+        let file = file_of(table);
+        let calls = list_bytes(&driver.calls);
+        let answers = driver.answers.iter().copied().map(Answer::from);
+        let mut meant: Vec<u8> = answers.flat_map(Answer::bytes).collect();
+        let written = meant.len();
         let before = self.random.bytes(written + more);
-        let meant = [&driver.answers, &before[written..]].concat();
-        let answers = self.list(file, &driver.calls, &before, Ok(()), &meant);
-        let answers = answers.get()[..written].to_vec();
-        for answer in Answer::list(&answers) {
-            self.saw(answer.number as usize);
-        }
-        answers
+        meant.extend(&before[written..]);
+        let answers = self.list(&file, &calls, &before, Ok(()), &meant);
+
+        let bounds = bounds_of(&file);
+        let mut watch = Watch::new(table, &bounds);
+        let said = Answer::list(&answers.get()[..written]);
+        let said = said.inspect(|answer| self.saw(answer.number as usize));
+        let steps = driver.calls.iter().copied().zip(said.map(Answer::said));
+        let seen = watch.see_all(steps);
+        assert!(seen.is_ok(), "{seen:?}, file {file:02X?}");
+        let reported = |(row, age)| Reported {
+            row,
+            age,
+            bound: bounds[row],
+        };
+        watch.ages.into_iter().map(reported).collect()
     }
 
     fn list(
@@ -161,6 +185,13 @@ impl Bench {
     }
 }
 
+/// A file's bounds by the library.
+fn bounds_of(file: &[u8]) -> Vec<u64> {
+    let mut bounds = [0; BOUNDS_SIZE];
+    assert_eq!(ithumeco::bounds(file, &mut bounds), Ok(()));
+    words(&bounds).collect()
+}
+
 fn hold_outcome(said: Outcome, meant: Outcome, context: &dyn Fn() -> String) {
     assert!(said == meant, "{said:?}, not {meant:?}: {}", context());
 }
@@ -188,7 +219,9 @@ fn shown(record: &[u8]) -> String {
 /// Holds a buffer and its guards to the bytes that it must have.
 fn hold(name: &str, buffer: &Guarded, meant: &[u8], context: &dyn Fn() -> String) {
     let said = buffer.get();
-    if let Some(at) = (0..meant.len()).find(|&at| said[at] != meant[at]) {
+    if said != meant {
+        let at = (0..meant.len()).find(|&at| said[at] != meant[at]);
+        let at = at.expect("buffers of one length");
         let (found, right) = (said[at], meant[at]);
         panic!(
             "byte {at} of the {name} is {found}, not {right}: {}",

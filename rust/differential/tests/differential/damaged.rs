@@ -4,24 +4,24 @@
 
 use std::collections::BTreeSet;
 
-use differential::driver::Driver;
-use differential::random::Random;
+use cases::driver::Driver;
+use cases::random::Random;
+use cases::tables;
+use cases::traffic::any_call;
 use differential::readable::port_of;
-use differential::tables;
-use differential::traffic::any_call;
-use ithumeco::{Call, FrameWords, LastWords, Record, RowWords, ANSWER_SIZE, RECORD_SIZE};
+use ithumeco::{
+    call_bytes, put_words, words, FrameWords, LastWords, Record, RowWords, ANSWER_SIZE,
+    RECORD_SIZE, WORD_SIZE,
+};
 use simulator::port::{CLAUSES, LAST_CLOCK};
 use simulator::table::accept;
-use simulator::{broken, Class, Port};
+use simulator::{broken, Call, Class, Port};
 
 use crate::bench::Bench;
 use crate::damages::DAMAGES;
 
 /// How much time passes on a port before its record is damaged.
 const AGE: u64 = 300_000;
-
-/// The size of a word in bytes.
-const WORD: usize = 8;
 
 pub fn run(bench: &mut Bench) {
     let mut random = Random::new(5);
@@ -92,7 +92,7 @@ fn offered(mut port: Port) -> Port {
 
 /// Makes one call on a record's bytes.
 fn call(bench: &mut Bench, record: &[u8], call: Call) {
-    bench.call(&mut record.to_vec(), &call.bytes(), ANSWER_SIZE);
+    bench.call(&mut record.to_vec(), &call_bytes(call), ANSWER_SIZE);
 }
 
 /// Makes each kind of call on a record's bytes.
@@ -136,9 +136,9 @@ fn with_changes(
     to: &[u8; RECORD_SIZE],
 ) -> [u8; RECORD_SIZE] {
     let mut record = *first;
-    for at in (0..RECORD_SIZE).step_by(WORD) {
-        if from[at..at + WORD] != to[at..at + WORD] {
-            record[at..at + WORD].copy_from_slice(&to[at..at + WORD]);
+    for at in (0..RECORD_SIZE).step_by(WORD_SIZE) {
+        if from[at..at + WORD_SIZE] != to[at..at + WORD_SIZE] {
+            record[at..at + WORD_SIZE].copy_from_slice(&to[at..at + WORD_SIZE]);
         }
     }
     record
@@ -171,17 +171,17 @@ const EDGES: [u64; 22] = [
 ];
 
 fn put(record: &mut [u8], at: usize, word: u64) {
-    record[at..at + WORD].copy_from_slice(&word.to_le_bytes());
+    put_words(&[word], &mut record[at..]);
 }
 
 fn get(record: &[u8], at: usize) -> u64 {
-    ithumeco::words(&record[at..]).next().expect("a word")
+    words(&record[at..]).next().expect("a word")
 }
 
 /// Every word at every edge.
 fn every_word(bench: &mut Bench, random: &mut Random, port: &Port) {
     let sound = Record::from(port).bytes();
-    for at in (0..RECORD_SIZE).step_by(WORD) {
+    for at in (0..RECORD_SIZE).step_by(WORD_SIZE) {
         let old = get(&sound, at);
         for word in EDGES
             .into_iter()
@@ -197,7 +197,7 @@ fn every_word(bench: &mut Bench, random: &mut Random, port: &Port) {
 /// A few words of any value, or with the value of another.
 fn some_words(bench: &mut Bench, random: &mut Random, port: &Port) {
     let sound = Record::from(port).bytes();
-    let place = |random: &mut Random| random.below(RECORD_SIZE / WORD) * WORD;
+    let place = |random: &mut Random| random.below(RECORD_SIZE / WORD_SIZE) * WORD_SIZE;
     for _ in 0..2000 {
         let mut record = sound;
         for _ in 0..random.between(1, 3) {
@@ -264,7 +264,7 @@ fn junk(bench: &mut Bench, random: &mut Random, port: &Port) {
         let mut kept = record;
         for _ in 0..10 {
             let made = any_call(random, &port.table);
-            bench.call(&mut kept, &made.bytes(), ANSWER_SIZE);
+            bench.call(&mut kept, &call_bytes(made), ANSWER_SIZE);
         }
     }
 }

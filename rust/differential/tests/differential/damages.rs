@@ -1,8 +1,8 @@
 //! Changes to a sound record by the clauses of document 01's "broken": changes
 //! that make a clause hold, and changes up to its edge that do not.
 
-use ithumeco::{FrameWords, LastWords, Record, WireWords, BEST_EFFORT};
-use simulator::port::LAST_CLOCK;
+use ithumeco::{FrameWords, LastWords, Record, WireWords};
+use simulator::port::{BEST_EFFORT, LAST_CLOCK};
 use simulator::table::{Accepted, Figures};
 
 pub type Damage = fn(&mut Record, &Accepted);

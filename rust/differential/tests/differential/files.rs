@@ -1,16 +1,18 @@
 //! Table files: valid, damaged, and noise.
 
-use differential::files::{damaged, file_of, file_stating, noise, SPECIMEN};
-use differential::random::Random;
-use differential::tables;
+use cases::files::{any_file, damaged, noise};
+use cases::random::Random;
+use cases::specimen::FILE;
+use cases::tables;
+use simulator::file_of;
 
 use crate::bench::Bench;
 
 pub fn run(bench: &mut Bench) {
     let mut random = Random::new(1);
-    every_room(bench, SPECIMEN);
-    every_byte(bench, SPECIMEN);
-    every_cut(bench, SPECIMEN);
+    every_room(bench, &FILE);
+    every_byte(bench, &FILE);
+    every_cut(bench, &FILE);
     let largest = largest_file(&mut random);
     every_room(bench, &largest);
     every_byte(bench, &largest);
@@ -31,16 +33,6 @@ pub fn run(bench: &mut Bench) {
     for _ in 0..bench.times(20_000) {
         let file = noise(&mut random);
         both(bench, &mut random, &file);
-    }
-}
-
-/// A file of an accepted table or of one at an edge, at times with fields that
-/// state their defaults.
-fn any_file(random: &mut Random) -> Vec<u8> {
-    match random.below(3) {
-        0 => file_of(&tables::accepted(random)),
-        1 => file_of(&tables::edge(random)),
-        _ => file_stating(&tables::edge(random), || random.one_in(8)),
     }
 }
 

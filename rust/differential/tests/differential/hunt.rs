@@ -1,9 +1,8 @@
 //! Traffic that makes one row's frame as old as it can become.
 
-use differential::driver::Driver;
-use ithumeco::Call;
+use cases::driver::Driver;
 use simulator::port::{LEAST_SIZE, MOST_ADVANCE};
-use simulator::{Class, Mark, Wire};
+use simulator::{Call, Class, Mark, Wire};
 
 /// What holds a row's frame up, besides its neighbours.
 #[derive(Clone, Copy, PartialEq, Eq)]
@@ -47,10 +46,7 @@ pub fn hunt(driver: &mut Driver, row: usize, way: Way) {
         until_turn(driver, row, class);
         block(driver, class);
     }
-    let waits = |driver: &Driver| driver.port.queue_a.len() + driver.port.queue_b.len() > 0;
-    while waits(driver) || driver.port.wire != Wire::Free {
-        driver.make(Call::Advance(MOST_ADVANCE));
-    }
+    driver.drain();
 }
 
 /// The rows of a class, the largest last.
@@ -70,10 +66,7 @@ fn quiet(driver: &mut Driver) {
         let rows = driver.port.table.rows.len();
         let wait = (0..rows).map(|row| driver.wait(row)).max().unwrap_or(0);
         let port = &driver.port;
-        let empty = port.queue_a.is_empty()
-            && port.queue_b.is_empty()
-            && port.queue_best.is_empty()
-            && port.wire == Wire::Free;
+        let empty = !driver.waits() && port.queue_best.is_empty() && port.wire == Wire::Free;
         if empty && wait == 0 && port.credit_a == 0 && port.credit_b == 0 {
             return;
         }
@@ -123,12 +116,8 @@ fn block(driver: &mut Driver, class: Class) {
     let table = &driver.port.table;
     let longer_b = table.largest(Class::B) > table.best_size();
     match of_class(driver, Class::B).pop() {
-        Some(row) if class == Class::A && longer_b => {
-            driver.offer(row);
-        }
-        _ => {
-            driver.make(Call::OfferBest(driver.port.table.best_payload));
-        }
+        Some(row) if class == Class::A && longer_b => driver.offer(row),
+        _ => driver.offer_best(),
     }
     driver.make(Call::Advance(1));
     if class == Class::B {

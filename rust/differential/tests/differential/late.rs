@@ -1,17 +1,17 @@
 //! Records with a clock near its last value, and beyond it.
 
-use differential::files::SPECIMEN;
-use differential::random::Random;
-use differential::traffic::any_call;
-use ithumeco::{Answer, Call, Record, ANSWER_SIZE};
+use cases::random::Random;
+use cases::specimen;
+use cases::traffic::any_call;
+use ithumeco::{call_bytes, Answer, Record, ANSWER_SIZE};
 use simulator::port::{LAST_CLOCK, MOST_ADVANCE};
-use simulator::{Port, Wire};
+use simulator::{Call, Port, Wire};
 
 use crate::bench::Bench;
 
 pub fn run(bench: &mut Bench) {
     let mut random = Random::new(6);
-    let table = simulator::read(SPECIMEN).expect("the specimen");
+    let table = specimen::table();
     for left in [0, 1, 2, 99, 100, 101, 65_534, 65_535, 65_536, 100_000] {
         for port in ports() {
             let late = moved(port, LAST_CLOCK - left);
@@ -22,7 +22,7 @@ pub fn run(bench: &mut Bench) {
                 let mut record = Record::from(&late).bytes();
                 for _ in 0..50 {
                     let call = any_call(&mut random, &table);
-                    bench.call(&mut record, &call.bytes(), ANSWER_SIZE);
+                    bench.call(&mut record, &call_bytes(call), ANSWER_SIZE);
                 }
             }
         }
@@ -30,14 +30,18 @@ pub fn run(bench: &mut Bench) {
     for clock in [LAST_CLOCK + 1, i64::MAX as u64, 1 << 63, u64::MAX] {
         let mut record = Record::from(&Port::fresh(table.clone()));
         record.clock = clock;
-        let said = bench.call(&mut record.bytes(), &Call::Advance(0).bytes(), ANSWER_SIZE);
+        let said = bench.call(
+            &mut record.bytes(),
+            &call_bytes(Call::Advance(0)),
+            ANSWER_SIZE,
+        );
         assert_eq!(said, Some(Answer::refused(18)));
     }
 }
 
 /// The specimen's port: fresh, and with frames waiting and on the wire.
 fn ports() -> [Port; 2] {
-    let fresh = Port::fresh(simulator::read(SPECIMEN).expect("the specimen"));
+    let fresh = Port::fresh(specimen::table());
     let mut busy = fresh.clone();
     for row in 0..3 {
         busy.offer(row, 0).expect("a sound port");
@@ -74,7 +78,7 @@ fn edges(left: u64) -> [u64; 8] {
 /// 15 comes before 16, and an advance to the last value is taken.
 fn advance(bench: &mut Bench, port: &Port, left: u64, n: u64) {
     let mut record = Record::from(port).bytes();
-    let said = bench.call(&mut record, &Call::Advance(n).bytes(), ANSWER_SIZE);
+    let said = bench.call(&mut record, &call_bytes(Call::Advance(n)), ANSWER_SIZE);
     let number = match n {
         _ if n > MOST_ADVANCE => 15,
         _ if n > left => 16,

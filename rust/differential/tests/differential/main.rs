@@ -15,7 +15,6 @@ mod promise;
 mod records;
 mod replay;
 mod tally;
-mod watch;
 
 use std::env;
 use std::panic::{catch_unwind, AssertUnwindSafe};

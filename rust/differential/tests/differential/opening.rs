@@ -2,10 +2,11 @@
 
 use std::collections::BTreeSet;
 
-use differential::files::{file_of, file_stating, SPECIMEN};
-use differential::random::Random;
-use differential::tables;
+use cases::random::Random;
+use cases::specimen::FILE;
+use cases::tables;
 use ithumeco::RECORD_SIZE;
+use simulator::file::{file_of, file_stating};
 
 use crate::bench::Bench;
 
@@ -15,7 +16,7 @@ type Seen = BTreeSet<(u8, u64)>;
 pub fn run(bench: &mut Bench) {
     let mut random = Random::new(2);
     let mut seen = Seen::new();
-    every_room(bench, SPECIMEN);
+    every_room(bench, &FILE);
     for _ in 0..bench.times(2000) {
         let file = file_of(&tables::accepted(&mut random));
         assert_eq!(bench.open(&file, RECORD_SIZE), Ok(()));

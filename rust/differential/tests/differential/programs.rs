@@ -9,12 +9,14 @@ use std::path::{Path, PathBuf};
 use std::process::{self, Child, Command, Output, Stdio};
 use std::thread;
 
-use differential::files::{damaged, file_of, noise, SPECIMEN};
-use differential::random::Random;
-use differential::tables;
-use differential::traffic::any_call;
-use ithumeco::Call;
-use simulator::Table;
+use cases::driver::Driver;
+use cases::files::{damaged, noise};
+use cases::lines;
+use cases::random::Random;
+use cases::specimen::{self, FILE};
+use cases::tables;
+use cases::traffic::TRAFFIC;
+use simulator::file_of;
 
 use crate::bench::Bench;
 
@@ -29,14 +31,14 @@ pub fn run(bench: &mut Bench) {
         folder,
     };
     for by_bytes in [false, true] {
-        programs.sheet(bench, SPECIMEN, by_bytes);
+        programs.sheet(bench, &FILE, by_bytes);
         programs.sheet(bench, &[], by_bytes);
-        programs.sheet(bench, &[SPECIMEN, &[0; 2000]].concat(), by_bytes);
-        programs.list(bench, SPECIMEN, b"", by_bytes);
-        programs.list(bench, &[SPECIMEN, &[0; 2000]].concat(), b"a 5\n", by_bytes);
-        for line in STRANGE {
+        programs.sheet(bench, &[&FILE[..], &[0; 2000]].concat(), by_bytes);
+        programs.list(bench, &FILE, b"", by_bytes);
+        programs.list(bench, &[&FILE[..], &[0; 2000]].concat(), b"a 5\n", by_bytes);
+        for line in lines::OF_NO_FORM.iter().chain(&lines::OF_ODD_NUMBERS) {
             let text = format!("a 5\n{line}\na 5\n");
-            programs.list(bench, SPECIMEN, text.as_bytes(), by_bytes);
+            programs.list(bench, &FILE, text.as_bytes(), by_bytes);
         }
     }
     for _ in 0..bench.times(150) {
@@ -45,41 +47,12 @@ pub fn run(bench: &mut Bench) {
     }
     for _ in 0..bench.times(150) {
         let file = any_file(&mut random);
-        let table = simulator::read(&file).ok();
-        let text = any_text(&mut random, table.as_ref());
+        let text = any_text(&mut random, &file);
         programs.list(bench, &file, &text, random.one_in(4));
     }
     programs.without_table(bench);
     fs::remove_dir_all(&programs.folder).expect("a folder that was made");
 }
-
-/// Lines of forms that `portrun` takes or stops at.
-const STRANGE: [&str; 24] = [
-    "",
-    " ",
-    "a",
-    "a ",
-    "a  5",
-    " a 5",
-    "a 5 ",
-    "a\t5",
-    "a 5\r",
-    "a +5",
-    "a -5",
-    "a 0x5",
-    "a 5 5",
-    "A 5",
-    "o 1",
-    "o 0  58",
-    "o 0 58 0",
-    "b",
-    "c 5",
-    "a 00000000000000000000005",
-    "a 18446744073709551616",
-    "b 99999999999999999999999999999999",
-    "o 18446744073709551615 0",
-    "o 0 058",
-];
 
 /// A program that the Rattle kit has built.
 fn program(name: &str) -> PathBuf {
@@ -189,27 +162,25 @@ fn count(bench: &mut Bench, text: &str) {
     }
 }
 
+/// A file, of an accepted table most of the time.
 fn any_file(random: &mut Random) -> Vec<u8> {
     match random.below(8) {
-        0 => damaged(random, SPECIMEN),
+        0 => damaged(random, &FILE),
         1 => file_of(&tables::edge(random)),
         2 => noise(random),
         _ => file_of(&tables::accepted(random)),
     }
 }
 
-/// A list of calls as text, at times with a byte changed or the end missing.
-fn any_text(random: &mut Random, table: Option<&Table>) -> Vec<u8> {
-    let specimen = simulator::read(SPECIMEN).expect("the specimen");
-    let table = table.unwrap_or(&specimen);
-    let mut text = String::new();
-    for _ in 0..random.below(120) {
-        text += &match any_call(random, table) {
-            Call::Offer(row, payload) => format!("o {row} {payload}\n"),
-            Call::OfferBest(payload) => format!("b {payload}\n"),
-            Call::Advance(n) => format!("a {n}\n"),
-        };
-    }
+/// A list of calls on a file's port as text, at times with a byte changed or
+/// the end missing.
+fn any_text(random: &mut Random, file: &[u8]) -> Vec<u8> {
+    let table = simulator::opened(file).unwrap_or_else(|_| specimen::table());
+    let mut driver = Driver::new(table);
+    let count = random.below(120);
+    random.pick(&TRAFFIC)(random, &mut driver, count);
+    let lines = driver.calls.iter().map(|call| format!("{call}\n"));
+    let text: String = lines.collect();
     let mut text = text.into_bytes();
     if !text.is_empty() && random.one_in(4) {
         let at = random.below(text.len());

@@ -1,16 +1,13 @@
 //! The promise: no frame of a row is older than its row's bound when it ends.
 
-use differential::driver::Driver;
-use differential::files::{file_of, SPECIMEN};
-use differential::random::Random;
-use differential::tables;
-use differential::traffic::dense_calls;
-use ithumeco::{words, BOUNDS_SIZE};
+use cases::driver::Driver;
+use cases::random::Random;
+use cases::traffic::dense_calls;
+use cases::{specimen, tables};
 use simulator::{Class, Table};
 
-use crate::bench::Bench;
+use crate::bench::{Bench, Reported};
 use crate::hunt::{hunt, WAYS};
-use crate::watch::Watch;
 
 /// The longest period of a table that is hunted on.
 const LONGEST: u64 = 200_000;
@@ -18,8 +15,7 @@ const LONGEST: u64 = 200_000;
 pub fn run(bench: &mut Bench) {
     let mut random = Random::new(8);
     let mut closest = Closest::default();
-    let specimen = simulator::read(SPECIMEN).expect("the specimen");
-    on_table(bench, &mut random, &mut closest, specimen);
+    on_table(bench, &mut random, &mut closest, specimen::table());
     for _ in 0..bench.times(40) {
         for class in [Class::A, Class::B] {
             let table = tables::tight(&mut random, class);
@@ -34,7 +30,6 @@ pub fn run(bench: &mut Bench) {
 
 /// Hunts for each row's oldest frame, then dense traffic, in one list.
 fn on_table(bench: &mut Bench, random: &mut Random, closest: &mut Closest, table: Table) {
-    let file = file_of(&table);
     let mut driver = Driver::new(table);
     for row in 0..driver.port.table.rows.len() {
         for way in WAYS {
@@ -42,26 +37,8 @@ fn on_table(bench: &mut Bench, random: &mut Random, closest: &mut Closest, table
         }
     }
     dense_calls(random, &mut driver, 1000);
-    let answers = bench.replay_played(&file, &driver, 0);
-    let mut bounds = [0; BOUNDS_SIZE];
-    assert_eq!(ithumeco::bounds(&file, &mut bounds), Ok(()));
-    let bounds: Vec<u64> = words(&bounds).collect();
-    let rows = &driver.port.table.rows;
-    let mut watch = Watch::new(&bounds[..rows.len()]);
-    watch.list(&driver.calls, &answers);
-    let some_a = rows.iter().any(|row| row.class == Class::A);
-    for (row, age) in watch.ages {
-        let bound = bounds[row];
-        assert!(
-            age <= bound,
-            "a frame of row {row} is {age} old, its bound is {bound}: {file:02X?}"
-        );
-        let kind = match rows[row].class {
-            Class::A => 0,
-            Class::B => 1 + usize::from(some_a),
-        };
-        closest.see(kind, age, bound);
-    }
+    driver.drain();
+    closest.see(&driver.port.table, &bench.replay_played(&driver, 0));
 }
 
 /// The ages that came closest to their bounds: in A, in B where there is no
@@ -75,11 +52,18 @@ struct Closest {
 const KINDS: [&str; 3] = ["A", "B alone", "B behind A"];
 
 impl Closest {
-    fn see(&mut self, kind: usize, age: u64, bound: u64) {
-        self.frames += 1;
-        let closest = &mut self.ages[kind];
-        if age * closest.1 >= closest.0 * bound {
-            *closest = (age, bound);
+    fn see(&mut self, table: &Table, frames: &[Reported]) {
+        let some_a = table.rows.iter().any(|row| row.class == Class::A);
+        for &Reported { row, age, bound } in frames {
+            self.frames += 1;
+            let kind = match table.rows[row].class {
+                Class::A => 0,
+                Class::B => 1 + usize::from(some_a),
+            };
+            let closest = &mut self.ages[kind];
+            if age * closest.1 >= closest.0 * bound {
+                *closest = (age, bound);
+            }
         }
     }
 

@@ -1,13 +1,12 @@
 //! Lists of calls made one by one on a record's bytes.
 
-use differential::driver::Driver;
-use differential::expected::{answer, call_of};
-use differential::files::{file_of, SPECIMEN};
-use differential::random::Random;
-use differential::tables;
-use differential::traffic::{any_call, dense_calls, random_calls};
-use ithumeco::{Call, Record, ANSWER_SIZE, CALL_SIZE, RECORD_SIZE};
-use simulator::{Port, Table};
+use cases::driver::Driver;
+use cases::random::Random;
+use cases::specimen;
+use cases::tables;
+use cases::traffic::{any_call, dense_calls, random_calls};
+use ithumeco::{call_bytes, Answer, Record, ANSWER_SIZE, CALL_SIZE, RECORD_SIZE};
+use simulator::{file_of, Call, Port, Table};
 
 use crate::bench::Bench;
 
@@ -32,31 +31,30 @@ fn opened(file: &[u8]) -> [u8; RECORD_SIZE] {
 
 /// Makes the calls, and holds the record to a port that the simulator leads
 /// through the same calls.
-fn one_by_one(bench: &mut Bench, random: &mut Random, table: Table, calls: &[u8]) {
+fn one_by_one(bench: &mut Bench, random: &mut Random, table: Table, calls: &[Call]) {
     let mut record = opened(&file_of(&table));
     let mut port = Port::fresh(table);
-    for call in calls.chunks(CALL_SIZE) {
+    for call in calls {
         let room = ANSWER_SIZE + random.pick(&[0, 0, 1, 24]);
-        let said = bench.call(&mut record, call, room);
-        let made = call_of(call).expect("the list is made of calls");
-        assert_eq!(said, Some(answer(&mut port, made)));
+        let said = bench.call(&mut record, &call_bytes(*call), room);
+        assert_eq!(said, Some(Answer::from(port.make(*call))));
         assert!(record == Record::from(&port).bytes(), "the port's record");
     }
 }
 
 /// Calls of any length, answers of any room.
 fn misfits(bench: &mut Bench, random: &mut Random) {
-    let mut record = opened(SPECIMEN);
-    let table = simulator::read(SPECIMEN).expect("the specimen");
+    let mut record = opened(&specimen::FILE);
+    let table = specimen::table();
     for len in 0..=CALL_SIZE * 2 {
-        let call = [Call::Advance(1).bytes(), Call::Advance(1).bytes()].concat();
+        let call = [call_bytes(Call::Advance(1)); 2].concat();
         bench.call(&mut record, &call[..len], ANSWER_SIZE);
     }
     for room in 0..ANSWER_SIZE * 2 {
-        bench.call(&mut record, &any_call(random, &table).bytes(), room);
+        bench.call(&mut record, &call_bytes(any_call(random, &table)), room);
     }
     for _ in 0..bench.times(2000) {
-        let mut call = any_call(random, &table).bytes();
+        let mut call = call_bytes(any_call(random, &table));
         if random.one_in(2) {
             call[random.below(CALL_SIZE)] ^= 1 << random.below(8);
         }

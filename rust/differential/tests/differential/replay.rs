@@ -1,11 +1,13 @@
 //! Lists of calls.
 
-use differential::driver::Driver;
-use differential::files::{damaged, file_of, SPECIMEN};
-use differential::random::Random;
-use differential::tables;
-use differential::traffic::{dense_calls, random_calls};
-use ithumeco::{put_words, Call, CALL_SIZE};
+use cases::driver::Driver;
+use cases::files::damaged;
+use cases::random::Random;
+use cases::specimen::FILE;
+use cases::tables;
+use cases::traffic::TRAFFIC;
+use ithumeco::{list_bytes, put_words, CALL_SIZE};
+use simulator::{file_of, Call};
 
 use crate::bench::Bench;
 
@@ -13,48 +15,44 @@ pub fn run(bench: &mut Bench) {
     let mut random = Random::new(3);
     for _ in 0..bench.times(150) {
         let count = random.below(600);
-        played(bench, &mut random, random_calls, count);
-        played(bench, &mut random, dense_calls, count);
+        played(bench, &mut random, count);
     }
-    played(bench, &mut random, random_calls, 20_000);
-    played(bench, &mut random, dense_calls, 20_000);
+    played(bench, &mut random, 20_000);
     misfits(bench, &mut random);
 }
 
-type Traffic = fn(&mut Random, &mut Driver, usize);
-
-/// A list on the port of any accepted table.
-fn played(bench: &mut Bench, random: &mut Random, traffic: Traffic, count: usize) {
-    let table = tables::accepted(random);
-    let file = file_of(&table);
-    let mut driver = Driver::new(table);
-    traffic(random, &mut driver, count);
-    bench.replay_played(&file, &driver, random.below(50));
+/// Lists on the ports of any accepted tables.
+fn played(bench: &mut Bench, random: &mut Random, count: usize) {
+    for traffic in TRAFFIC {
+        let mut driver = Driver::new(tables::accepted(random));
+        traffic(random, &mut driver, count);
+        bench.replay_played(&driver, random.below(50));
+    }
 }
 
 /// Lists that do not fit: 101, 102, 103, and the file's refusals behind them.
 fn misfits(bench: &mut Bench, random: &mut Random) {
-    let calls: Vec<u8> = (0..7).flat_map(|n| Call::Advance(n * 50).bytes()).collect();
+    let calls = list_bytes(&[0, 50, 100, 150, 200, 250, 300].map(Call::Advance));
     let answers = 7 * 40;
-    bench.replay(SPECIMEN, &[], 0);
+    bench.replay(&FILE, &[], 0);
     for len in 0..=calls.len() {
-        bench.replay(SPECIMEN, &calls[..len], answers);
+        bench.replay(&FILE, &calls[..len], answers);
     }
     for room in 0..answers + 50 {
-        bench.replay(SPECIMEN, &calls, room);
+        bench.replay(&FILE, &calls, room);
     }
     for place in 0..7 {
         for wrong in wrong_calls() {
             let mut calls = calls.clone();
             calls[place * CALL_SIZE..][..CALL_SIZE].copy_from_slice(&wrong);
-            bench.replay(SPECIMEN, &calls, answers);
+            bench.replay(&FILE, &calls, answers);
         }
     }
     for _ in 0..bench.times(4000) {
         let file = match random.below(4) {
-            0 => damaged(random, SPECIMEN),
+            0 => damaged(random, &FILE),
             1 => file_of(&tables::edge(random)),
-            _ => SPECIMEN.to_vec(),
+            _ => FILE.to_vec(),
         };
         let mut calls = calls.clone();
         for _ in 0..random.below(3) {

@@ -1,20 +1,17 @@
 //! The scope's own numbers.
 
-use crate::specimen::{row, table, FILE};
+use crate::frames::{best, frame};
+use cases::specimen::{table, FILE};
+use cases::tables::row;
 use simulator::{
-    bounds, open, portrun, portsheet, read, wire_size, write, Advance, Class, Frame, Mark, Port,
-    Refusal, Table, Wire,
+    bounds, open, portrun, portsheet, read, wire_size, write, Advance, Class, Port, Refusal, Table,
+    Wire,
 };
 
 fn ended(passed: u64, row: usize, size: u64, instant: u64) -> Result<Advance, Refusal> {
-    let frame = Frame {
-        mark: Mark::Row(row),
-        size,
-        instant,
-    };
     Ok(Advance {
         passed,
-        ended: Some(frame),
+        ended: Some(frame(row, size, instant)),
     })
 }
 
@@ -28,6 +25,7 @@ fn none(passed: u64) -> Result<Advance, Refusal> {
 #[test]
 fn specimen_reads() {
     assert_eq!(read(&FILE), Ok(table()));
+    assert_eq!(include_bytes!("../../../../tables/specimen.avb"), &FILE);
 }
 
 #[test]
@@ -101,14 +99,9 @@ fn fact_d_best_effort_one_byte_ahead() {
     assert_eq!(port.offer_best(1500), Ok(()));
     assert_eq!(port.advance(1), none(1));
     assert_eq!(port.offer(0, 58), Ok(()));
-    let best = Frame {
-        mark: Mark::BestEffort,
-        size: 1542,
-        instant: 0,
-    };
     let expected = Advance {
         passed: 1541,
-        ended: Some(best),
+        ended: Some(best(1542, 0)),
     };
     assert_eq!(port.advance(5000), Ok(expected));
     // Credit does not stop at 0 while a frame waits.

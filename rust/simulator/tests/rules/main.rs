@@ -1,7 +1,7 @@
 //! The simulator held to the scope's rules and numbers.
 
 mod document;
+mod frames;
 mod random;
 mod records;
 mod refusals;
-mod specimen;

@@ -1,8 +1,9 @@
 //! Every clause by which a record is broken, on both sides of its edge.
 
-use crate::specimen::table;
+use crate::frames::{best, frame};
+use cases::specimen::table;
 use simulator::port::CLAUSES;
-use simulator::{broken, Frame, Mark, Port, Wire};
+use simulator::{broken, Mark, Port, Wire};
 
 /// A sound record at clock 1000: row 0 on the wire, rows 1 and 2 and two
 /// best-effort frames waiting.
@@ -19,22 +20,6 @@ fn sound() -> Port {
     port.queue_best.push_back(best(84, 1000));
     assert_eq!(broken(&port), None);
     port
-}
-
-fn frame(row: usize, size: u64, instant: u64) -> Frame {
-    Frame {
-        mark: Mark::Row(row),
-        size,
-        instant,
-    }
-}
-
-fn best(size: u64, instant: u64) -> Frame {
-    Frame {
-        mark: Mark::BestEffort,
-        size,
-        instant,
-    }
 }
 
 /// The clause that holds after a change, and that every call refuses with 18.

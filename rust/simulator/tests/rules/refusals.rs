@@ -1,6 +1,7 @@
 //! Each refusal, its place, and that it changes nothing.
 
-use crate::specimen::{row, table, FILE};
+use cases::specimen::{table, FILE};
+use cases::tables::row;
 use simulator::{bounds, open, read, write, Class, Port, Refusal, Table};
 
 fn refusal(number: u8, place: u64) -> Refusal {

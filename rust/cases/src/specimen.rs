@@ -1,6 +1,8 @@
-//! The specimen port.
+//! Document 01's specimen.
 
-use simulator::{Class, Row, Table};
+use simulator::{Class, Table};
+
+use crate::tables::row;
 
 /// The specimen's file.
 pub const FILE: [u8; 28] = [
@@ -25,14 +27,5 @@ pub fn table() -> Table {
             row(Class::A, 258, 15_625, 6000),
             row(Class::B, 458, 31_250, 31_250),
         ],
-    }
-}
-
-pub fn row(class: Class, payload: u64, period: u64, deadline: u64) -> Row {
-    Row {
-        class,
-        payload,
-        period,
-        deadline,
     }
 }

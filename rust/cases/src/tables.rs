@@ -1,15 +1,25 @@
 //! Tables: accepted ones of many kinds, and tables at the edges of the rules.
 
-use simulator::table::{D, MOST_IDLE_TOGETHER, MOST_ROWS};
+use simulator::file::{default_period, DEFAULT_PAYLOAD};
+use simulator::table::{D, MOST_IDLE_TOGETHER, MOST_ROWS, PAYLOAD_RANGE, PERIOD_RANGE};
 use simulator::{bounds, wire_size, Class, Row, Table};
 
 use crate::random::Random;
 
 /// The longest period.
-const LONGEST: u64 = 1_000_000_000;
+const LONGEST: u64 = *PERIOD_RANGE.end();
 
 /// The largest payload.
-const LARGEST: u64 = 1500;
+const LARGEST: u64 = *PAYLOAD_RANGE.end();
+
+pub fn row(class: Class, payload: u64, period: u64, deadline: u64) -> Row {
+    Row {
+        class,
+        payload,
+        period,
+        deadline,
+    }
+}
 
 /// A table of any kind that opening accepts.
 pub fn accepted(random: &mut Random) -> Table {
@@ -107,12 +117,7 @@ fn unfitted(random: &mut Random, counts: (u64, u64), idles: (u64, u64)) -> Table
     let mut rows = Vec::new();
     for (class, count) in [(Class::A, counts.0), (Class::B, counts.1)] {
         for _ in 0..count {
-            rows.push(Row {
-                class,
-                payload: payload(random, LARGEST),
-                period: LONGEST,
-                deadline: LONGEST,
-            });
+            rows.push(row(class, payload(random, LARGEST), LONGEST, LONGEST));
         }
     }
     random.shuffle(&mut rows);
@@ -150,6 +155,22 @@ fn fit(random: &mut Random, table: &mut Table, stretched: bool) {
             1 => row.period,
             _ => random.between(bound, row.period),
         };
+    }
+}
+
+/// Gives some of the rows' values their defaults, which a file leaves out.
+pub fn set_defaults(random: &mut Random, table: &mut Table) {
+    for row in &mut table.rows {
+        if random.one_in(3) {
+            row.payload = DEFAULT_PAYLOAD;
+        }
+        if random.one_in(3) {
+            row.period = default_period(row.class);
+            row.deadline = random.between(1, row.period);
+        }
+        if random.one_in(3) {
+            row.deadline = row.period;
+        }
     }
 }
 

@@ -1,0 +1,57 @@
+//! A list of calls that is made up while the simulator plays it.
+
+use simulator::port::MOST_ADVANCE;
+use simulator::{Advance, Call, Port, Refusal, Table, Wire};
+
+pub struct Driver {
+    pub port: Port,
+    /// The calls, and the simulator's answers.
+    pub calls: Vec<Call>,
+    pub answers: Vec<Result<Advance, Refusal>>,
+}
+
+impl Driver {
+    pub fn new(table: Table) -> Driver {
+        Driver {
+            port: Port::fresh(table),
+            calls: Vec::new(),
+            answers: Vec::new(),
+        }
+    }
+
+    pub fn make(&mut self, call: Call) {
+        self.calls.push(call);
+        self.answers.push(self.port.make(call));
+    }
+
+    /// Offers a row's largest frame.
+    pub fn offer(&mut self, row: usize) {
+        let payload = self.port.table.rows[row].payload;
+        self.make(Call::Offer(row as u64, payload));
+    }
+
+    /// Offers the largest best-effort frame.
+    pub fn offer_best(&mut self) {
+        self.make(Call::OfferBest(self.port.table.best_payload));
+    }
+
+    /// How long until a row may be offered to again.
+    pub fn wait(&self, row: usize) -> u64 {
+        match self.port.last[row] {
+            Some(last) => (last + self.port.table.rows[row].period).saturating_sub(self.port.clock),
+            None => 0,
+        }
+    }
+
+    /// Whether a frame of a row waits.
+    pub fn waits(&self) -> bool {
+        !self.port.queue_a.is_empty() || !self.port.queue_b.is_empty()
+    }
+
+    /// Advances until every frame of a row has ended.
+    pub fn drain(&mut self) {
+        while self.waits() || self.port.wire != Wire::Free {
+            self.make(Call::Advance(MOST_ADVANCE));
+        }
+    }
+}

@@ -1,0 +1,169 @@
+//! Holds a list with its answers to demand 3 and to the rules of refusals, by
+//! the list alone: no port is asked.
+
+use std::collections::VecDeque;
+
+use simulator::port::{LAST_CLOCK, MOST_ADVANCE, MOST_BEST};
+use simulator::refusal::refuse;
+use simulator::{wire_size, Advance, Call, Frame, Mark, Refusal, Table, TAKEN};
+
+type Answer = Result<Advance, Refusal>;
+
+/// What a watch has to say: nothing, or what is wrong.
+pub type Seen = Result<(), String>;
+
+pub struct Watch<'a> {
+    table: &'a Table,
+    bounds: &'a [u64],
+    /// The sum of the counts passed.
+    pub clock: u64,
+    /// Each row's last taken instant.
+    last: Vec<Option<u64>>,
+    /// The rows' frames that are taken and not reported.
+    waiting: Vec<Option<Frame>>,
+    /// The same of best effort, the first taken first.
+    waiting_best: VecDeque<Frame>,
+    /// The rows and ages of the reported frames.
+    pub ages: Vec<(usize, u64)>,
+}
+
+fn hold(right: bool, wrong: impl FnOnce() -> String) -> Seen {
+    if right {
+        return Ok(());
+    }
+    Err(wrong())
+}
+
+fn same(answer: Answer, meant: Answer) -> Seen {
+    hold(answer == meant, || format!("{answer:?}, not {meant:?}"))
+}
+
+impl Watch<'_> {
+    /// A watch over a list on the port of an accepted table with these bounds.
+    pub fn new<'a>(table: &'a Table, bounds: &'a [u64]) -> Watch<'a> {
+        Watch {
+            table,
+            bounds,
+            clock: 0,
+            last: vec![None; table.rows.len()],
+            waiting: vec![None; table.rows.len()],
+            waiting_best: VecDeque::new(),
+            ages: Vec::new(),
+        }
+    }
+
+    /// A list with its answers, from the fresh port on.
+    pub fn see_all(&mut self, steps: impl Iterator<Item = (Call, Answer)>) -> Seen {
+        for (place, (call, answer)) in steps.enumerate() {
+            self.see(call, answer)
+                .map_err(|wrong| format!("call {place}, `{call}`: {wrong}"))?;
+        }
+        Ok(())
+    }
+
+    fn see(&mut self, call: Call, answer: Answer) -> Seen {
+        match call {
+            Call::Offer(row, payload) => self.see_offer(row as usize, payload, answer),
+            Call::OfferBest(payload) => self.see_offer_best(payload, answer),
+            Call::Advance(n) => self.see_advance(n, answer),
+        }
+    }
+
+    /// A frame that is taken now, its size worked out from the payload.
+    fn frame(&self, mark: Mark, payload: u64) -> Frame {
+        Frame {
+            mark,
+            size: wire_size(payload),
+            instant: self.clock,
+        }
+    }
+
+    /// 11, 12 and 13 judged by their rules: an offer that they let pass is
+    /// taken.
+    fn judge_offer(&self, place: usize, payload: u64) -> Answer {
+        match self.table.rows.get(place) {
+            None => refuse(11, 0),
+            Some(row) if payload > row.payload => refuse(12, 0),
+            Some(row) => match self.last[place] {
+                Some(last) if self.clock - last < row.period => refuse(13, 0),
+                _ => Ok(TAKEN),
+            },
+        }
+    }
+
+    fn see_offer(&mut self, row: usize, payload: u64, answer: Answer) -> Seen {
+        same(answer, self.judge_offer(row, payload))?;
+        if answer.is_ok() {
+            let frame = self.frame(Mark::Row(row), payload);
+            let before = self.waiting[row].replace(frame);
+            hold(before.is_none(), || format!("{before:?} has not ended"))?;
+            self.last[row] = Some(self.clock);
+        }
+        Ok(())
+    }
+
+    /// Of the frames that are taken and not reported one may be on the wire: 16
+    /// of them are 15 or 16 that wait.
+    fn see_offer_best(&mut self, payload: u64, answer: Answer) -> Seen {
+        match self.waiting_best.len() {
+            _ if payload > self.table.best_payload => same(answer, refuse(12, 0))?,
+            MOST_BEST if answer == Ok(TAKEN) => (),
+            more if more >= MOST_BEST => same(answer, refuse(14, 0))?,
+            _ => same(answer, Ok(TAKEN))?,
+        }
+        if answer.is_ok() {
+            let frame = self.frame(Mark::BestEffort, payload);
+            self.waiting_best.push_back(frame);
+        }
+        Ok(())
+    }
+
+    fn see_advance(&mut self, n: u64, answer: Answer) -> Seen {
+        if n > MOST_ADVANCE {
+            return same(answer, refuse(15, 0));
+        }
+        if self.clock + n > LAST_CLOCK {
+            return same(answer, refuse(16, 0));
+        }
+        let Ok(Advance { passed, ended }) = answer else {
+            return Err(format!("{answer:?}"));
+        };
+        let right = match ended {
+            None => passed == n,
+            Some(_) => (1..=n).contains(&passed),
+        };
+        hold(right, || format!("{passed} passed"))?;
+        self.clock += passed;
+        ended.map_or(Ok(()), |frame| self.see_end(frame))?;
+        self.none_late()
+    }
+
+    /// A reported frame is the one that was taken, by its mark, wire size and
+    /// instant, and is not older than its bound.
+    fn see_end(&mut self, frame: Frame) -> Seen {
+        let taken = match frame.mark {
+            Mark::Row(row) => self.waiting.get_mut(row).and_then(Option::take),
+            Mark::BestEffort => self.waiting_best.pop_front(),
+        };
+        hold(taken == Some(frame), || {
+            format!("{frame:?} reported, {taken:?} taken")
+        })?;
+        if let Mark::Row(row) = frame.mark {
+            let (age, bound) = (self.clock - frame.instant, self.bounds[row]);
+            hold(age <= bound, || {
+                format!("row {row}'s frame ends at {age}, its bound is {bound}")
+            })?;
+            self.ages.push((row, age));
+        }
+        Ok(())
+    }
+
+    /// A frame that is not reported is younger than its bound.
+    fn none_late(&self) -> Seen {
+        let late = |(frame, bound): (&Option<Frame>, &u64)| {
+            frame.filter(|frame| self.clock - frame.instant >= *bound)
+        };
+        let late = self.waiting.iter().zip(self.bounds).find_map(late);
+        hold(late.is_none(), || format!("{late:?} has not ended"))
+    }
+}

@@ -1,0 +1,114 @@
+//! The watch lets the simulator's lists pass and sees a wrong answer.
+
+use cases::driver::Driver;
+use cases::random::Random;
+use cases::specimen::table;
+use cases::traffic::{dense_calls, random_calls};
+use cases::watch::{Seen, Watch};
+use simulator::refusal::refuse;
+use simulator::{bounds, Advance, Call, Frame, Mark, Refusal, TAKEN};
+
+fn watched(driver: &Driver) -> Seen {
+    let bounds = bounds(&driver.port.table).unwrap();
+    let calls = driver.calls.iter().copied();
+    let steps = calls.zip(driver.answers.iter().copied());
+    Watch::new(&driver.port.table, &bounds).see_all(steps)
+}
+
+#[test]
+fn the_simulators_lists_pass() {
+    let mut random = Random::new(9);
+    let mut driver = Driver::new(table());
+    random_calls(&mut random, &mut driver, 2000);
+    dense_calls(&mut random, &mut driver, 2000);
+    driver.drain();
+    assert_eq!(watched(&driver), Ok(()));
+}
+
+/// README's run: best effort has the wire when each row is offered to.
+const RUN: [Call; 9] = [
+    Call::OfferBest(1500),
+    Call::Advance(1),
+    Call::Offer(0, 58),
+    Call::Offer(1, 258),
+    Call::Offer(2, 458),
+    Call::Advance(65_535),
+    Call::Advance(65_535),
+    Call::Advance(65_535),
+    Call::Advance(65_535),
+];
+
+/// The place of the advance in which row 0's frame ends.
+const END_OF_ROW_0: usize = 6;
+
+/// The run with another answer at a place is wrong there.
+fn wrong(place: usize, answer: Result<Advance, Refusal>) {
+    let mut driver = Driver::new(table());
+    RUN.into_iter().for_each(|call| driver.make(call));
+    assert_eq!(watched(&driver), Ok(()));
+    assert_ne!(driver.answers[place], answer);
+    driver.answers[place] = answer;
+    let seen = watched(&driver).unwrap_err();
+    assert!(seen.starts_with(&format!("call {place}, ")), "{seen}");
+}
+
+fn ended(passed: u64, mark: Mark, size: u64, instant: u64) -> Result<Advance, Refusal> {
+    let ended = Some(Frame {
+        mark,
+        size,
+        instant,
+    });
+    Ok(Advance { passed, ended })
+}
+
+#[test]
+fn a_reported_frame_is_the_one_taken() {
+    wrong(END_OF_ROW_0, ended(100, Mark::Row(0), 101, 1));
+    wrong(END_OF_ROW_0, ended(100, Mark::Row(0), 100, 0));
+    wrong(END_OF_ROW_0, ended(100, Mark::Row(1), 100, 1));
+    wrong(END_OF_ROW_0, ended(100, Mark::Row(3), 100, 1));
+    wrong(END_OF_ROW_0, ended(100, Mark::BestEffort, 1542, 0));
+    // Reported once.
+    wrong(END_OF_ROW_0 + 1, ended(300, Mark::Row(0), 100, 1));
+    wrong(END_OF_ROW_0 - 1, ended(1541, Mark::BestEffort, 1541, 0));
+}
+
+#[test]
+fn a_frame_is_reported_no_later_than_its_bound() {
+    wrong(END_OF_ROW_0, ended(3742, Mark::Row(0), 100, 1));
+    let nothing = |passed| {
+        Ok(Advance {
+            passed,
+            ended: None,
+        })
+    };
+    wrong(END_OF_ROW_0, nothing(65_535));
+    // Time passes to the end, or to a frame's.
+    wrong(END_OF_ROW_0, nothing(100));
+    wrong(1, nothing(0));
+}
+
+#[test]
+fn offers_are_taken_or_refused_by_the_rules() {
+    for number in [11, 12, 13, 14, 18] {
+        wrong(0, refuse(number, 0));
+        wrong(2, refuse(number, 0));
+    }
+    wrong(1, refuse(15, 0));
+    wrong(1, refuse(18, 0));
+    // Taken in no time.
+    wrong(2, ended(0, Mark::BestEffort, 1542, 0));
+    // Not taken where a rule refuses.
+    let mut driver = Driver::new(table());
+    for call in [Call::Offer(3, 0), Call::Offer(0, 59), Call::OfferBest(1501)] {
+        driver.make(call);
+    }
+    driver.offer(0);
+    driver.offer(0);
+    for place in [0, 1, 2, 4] {
+        let said = std::mem::replace(&mut driver.answers[place], Ok(TAKEN));
+        assert!(watched(&driver).is_err(), "call {place}");
+        driver.answers[place] = said;
+    }
+    assert_eq!(watched(&driver), Ok(()));
+}
