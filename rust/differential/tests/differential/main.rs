@@ -37,41 +37,66 @@ const GROUPS: [(&str, Group); 8] = [
     ("promise", promise::run),
 ];
 
-fn main() -> ExitCode {
-    let wanted: Vec<String> = env::args()
+/// The groups that the arguments name, all if there are none.
+fn wanted() -> Result<Vec<(&'static str, Group)>, String> {
+    // Cargo hands its own options on.
+    let names: Vec<String> = env::args()
         .skip(1)
         .filter(|argument| !argument.starts_with('-'))
         .collect();
-    let factor = match env::var("ITHUMECO_LONG") {
-        Ok(factor) => factor.parse().expect("ITHUMECO_LONG is a number"),
-        Err(_) => 1,
+    let known = GROUPS.map(|(name, _)| name);
+    if let Some(name) = names.iter().find(|name| !known.contains(&name.as_str())) {
+        let known = known.join(", ");
+        return Err(format!("no test group `{name}`; the groups are {known}"));
+    }
+    let is_wanted = |name: &str| names.is_empty() || names.iter().any(|wanted| wanted == name);
+    let mut groups = GROUPS.to_vec();
+    groups.retain(|(name, _)| is_wanted(name));
+    Ok(groups)
+}
+
+/// How many times as many cases to run.
+fn factor() -> Result<usize, String> {
+    let Ok(text) = env::var("ITHUMECO_LONG") else {
+        return Ok(1);
     };
+    let factor = text.parse().ok().filter(|&factor| factor > 0);
+    factor.ok_or_else(|| format!("ITHUMECO_LONG is no number above 0: {text}"))
+}
+
+/// Runs the groups and prints what they have seen.
+fn run() -> Result<(), String> {
+    let (groups, factor) = (wanted()?, factor()?);
+    let all = groups.len() == GROUPS.len();
     let mut tally = Tally::default();
     let mut failed = Vec::new();
-    for (name, group) in GROUPS {
-        if !wanted.is_empty() && !wanted.iter().any(|wanted| wanted == name) {
-            continue;
-        }
+    for (name, group) in groups {
         let begun = Instant::now();
         let mut bench = Bench::new(factor);
         // A panic says what is wrong; the other groups run all the same.
         if catch_unwind(AssertUnwindSafe(|| group(&mut bench))).is_err() {
-            failed.push(name);
+            failed.push(format!("group {name}"));
         }
         let seconds = begun.elapsed().as_secs_f64();
         tally.add(name, bench.cases, seconds, &bench.numbers);
     }
     tally.print();
-    if wanted.is_empty() {
-        let unseen = tally.unseen();
-        if !unseen.is_empty() {
-            eprintln!("refusals that were not seen: {unseen:?}");
-            failed.push("refusals");
-        }
+    if all {
+        let unseen = tally.unseen().into_iter();
+        failed.extend(unseen.map(|number| format!("refusal {number} is not seen")));
     }
     if failed.is_empty() {
-        return ExitCode::SUCCESS;
+        return Ok(());
     }
-    eprintln!("failed: {failed:?}");
-    ExitCode::FAILURE
+    Err(format!("failed: {}", failed.join(", ")))
+}
+
+fn main() -> ExitCode {
+    match run() {
+        Ok(()) => ExitCode::SUCCESS,
+        Err(wrong) => {
+            eprintln!("{wrong}");
+            ExitCode::FAILURE
+        }
+    }
 }
