@@ -1,7 +1,11 @@
 //! What the groups have seen.
 
-/// The numbers of document 01's refusals.
-const NUMBERS: std::ops::RangeInclusive<usize> = 1..=18;
+use std::iter;
+
+/// The numbers of document 01's refusals, and of bytes that do not fit.
+fn refusals() -> impl Iterator<Item = usize> {
+    (1..=18).chain(101..=103)
+}
 
 /// How often each number was seen from the product, 0 where it did not refuse.
 pub type Counts = [u64; 256];
@@ -24,7 +28,7 @@ impl Tally {
             print!(" {name:>9}");
         }
         println!();
-        for number in (0..=0).chain(NUMBERS).chain(101..=103) {
+        for number in iter::once(0).chain(refusals()) {
             print!("{number:>6}");
             for (_, counts) in &self.groups {
                 print!(" {:>9}", counts[number]);
@@ -35,7 +39,7 @@ impl Tally {
 
     /// The refusals that no group has seen.
     pub fn unseen(&self) -> Vec<usize> {
-        NUMBERS
+        refusals()
             .filter(|&number| self.groups.iter().all(|(_, counts)| counts[number] == 0))
             .collect()
     }
