@@ -1,7 +1,10 @@
 //! The table files that are measured.
 
 use cases::tables::row;
-use simulator::{file_of, Call, Class, Table};
+use simulator::{file_of, Class, Table};
+
+/// Document 01's specimen: 3 rows.
+pub use cases::specimen::FILE as OF_3_ROWS;
 
 /// 32 rows, 16 of each class.
 pub fn of_32_rows() -> Vec<u8> {
@@ -26,11 +29,4 @@ pub fn of_long_waits() -> Vec<u8> {
         best_payload: 1500,
         rows: vec![row(Class::A, 1500, 2_500_000, 2_500_000); 32],
     })
-}
-
-/// A frame offered to each of 32 rows, then the same call again and again: so
-/// many calls in all.
-pub fn all_offered(payload: u64, then: Call, calls: usize) -> Vec<Call> {
-    let offers = (0..32).map(|row| Call::Offer(row, payload));
-    offers.chain(std::iter::repeat(then)).take(calls).collect()
 }
