@@ -1,7 +1,11 @@
 //! A list of calls that is made up while the simulator plays it.
 
 use simulator::port::MOST_ADVANCE;
+use simulator::refusal::refuse;
 use simulator::{Advance, Call, Port, Refusal, Table, Wire};
+
+/// More calls than any list has.
+const MOST_CALLS: usize = 1_000_000;
 
 pub struct Driver {
     pub port: Port,
@@ -20,8 +24,11 @@ impl Driver {
     }
 
     pub fn make(&mut self, call: Call) {
+        let answer = self.port.make(call);
+        assert_ne!(answer, refuse(18, 0), "no list breaks a port");
+        assert!(self.calls.len() < MOST_CALLS, "a list without an end");
         self.calls.push(call);
-        self.answers.push(self.port.make(call));
+        self.answers.push(answer);
     }
 
     /// Offers a row's largest frame.

@@ -1,5 +1,7 @@
 //! Tables: accepted ones of many kinds, and tables at the edges of the rules.
 
+use std::iter;
+
 use simulator::file::{default_period, DEFAULT_PAYLOAD};
 use simulator::table::{D, MOST_IDLE_TOGETHER, MOST_ROWS, PAYLOAD_RANGE, PERIOD_RANGE};
 use simulator::{bounds, wire_size, Class, Row, Table};
@@ -11,6 +13,9 @@ const LONGEST: u64 = *PERIOD_RANGE.end();
 
 /// The largest payload.
 const LARGEST: u64 = *PAYLOAD_RANGE.end();
+
+/// More tables than have to be tried to find one that is accepted.
+const MOST_PROPOSALS: usize = 100_000;
 
 pub fn row(class: Class, payload: u64, period: u64, deadline: u64) -> Row {
     Row {
@@ -28,36 +33,50 @@ pub fn accepted(random: &mut Random) -> Table {
 
 /// An accepted table whose periods are at most `longest`.
 pub fn within(random: &mut Random, longest: u64) -> Table {
-    loop {
-        let table = proposed(random);
-        if bounds(&table).is_ok() && table.rows.iter().all(|row| row.period <= longest) {
-            return table;
-        }
-    }
+    let short = |table: &Table| table.rows.iter().all(|row| row.period <= longest);
+    first_accepted(|| proposed(random), short)
+}
+
+/// An accepted table, most of the time with periods so short that frames meet.
+pub fn lively(random: &mut Random) -> Table {
+    let longest = random.pick(&[50_000, 200_000, LONGEST]);
+    within(random, longest)
+}
+
+/// An accepted table of 32 rows.
+pub fn full(random: &mut Random) -> Table {
+    first_accepted(|| proposed(random), |table| table.rows.len() == MOST_ROWS)
+}
+
+/// The first of many proposals that opening accepts and that is as wanted.
+fn first_accepted(propose: impl FnMut() -> Table, wanted: impl Fn(&Table) -> bool) -> Table {
+    let mut proposals = iter::repeat_with(propose).take(MOST_PROPOSALS);
+    let found = proposals.find(|table| bounds(table).is_ok() && wanted(table));
+    found.expect("a proposal that opening accepts")
 }
 
 /// An accepted table in which most rows are of one class, of one size and
 /// with a high slope: the part of its bounds that no traffic reaches is small.
 pub fn tight(random: &mut Random, class: Class) -> Table {
-    loop {
-        let others = random.between(0, 4);
-        let most = random.between(20, 28);
-        let idle = random.between(500_000, 700_000);
-        let slack = if others == 0 { 0 } else { 750_000 - idle };
-        let (counts, idles) = match class {
-            Class::A => ((most, others), (idle, slack)),
-            Class::B => ((others, most), (slack, idle)),
-        };
-        let size = payload(random, LARGEST);
-        let mut table = unfitted(random, counts, idles);
-        for row in table.rows.iter_mut().filter(|row| row.class == class) {
-            row.payload = size;
-        }
-        fit(random, &mut table, false);
-        if bounds(&table).is_ok() {
-            return table;
-        }
+    first_accepted(|| proposed_tight(random, class), |_| true)
+}
+
+fn proposed_tight(random: &mut Random, class: Class) -> Table {
+    let others = random.between(0, 4);
+    let most = random.between(20, 28);
+    let idle = random.between(500_000, 700_000);
+    let slack = if others == 0 { 0 } else { 750_000 - idle };
+    let (counts, idles) = match class {
+        Class::A => ((most, others), (idle, slack)),
+        Class::B => ((others, most), (slack, idle)),
+    };
+    let size = payload(random, LARGEST);
+    let mut table = unfitted(random, counts, idles);
+    for row in table.rows.iter_mut().filter(|row| row.class == class) {
+        row.payload = size;
     }
+    fit(random, &mut table, false);
+    table
 }
 
 fn proposed(random: &mut Random) -> Table {
@@ -184,7 +203,7 @@ pub fn edge(random: &mut Random) -> Table {
 }
 
 /// Moves one value to an edge.
-fn change(random: &mut Random, table: &mut Table) {
+pub fn change(random: &mut Random, table: &mut Table) {
     if table.rows.is_empty() {
         return;
     }
@@ -226,16 +245,6 @@ fn change(random: &mut Random, table: &mut Table) {
 pub fn late(table: &mut Table, place: usize, off: u64) {
     if let Some(bound) = bounds(table).ok().map(|bounds| bounds[place]) {
         table.rows[place].deadline = bound - off;
-    }
-}
-
-/// An accepted table of 32 rows.
-pub fn full(random: &mut Random) -> Table {
-    loop {
-        let table = accepted(random);
-        if table.rows.len() == MOST_ROWS {
-            return table;
-        }
     }
 }
 
