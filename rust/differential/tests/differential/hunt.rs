@@ -16,7 +16,15 @@ pub enum Way {
     BehindItsOwn,
 }
 
-pub const WAYS: [Way; 3] = [Way::Blocked, Way::InDebt, Way::BehindItsOwn];
+impl Way {
+    /// The ways in which a frame of a class is held up.
+    pub fn of(class: Class) -> &'static [Way] {
+        match class {
+            Class::A => &[Way::Blocked, Way::InDebt],
+            Class::B => &[Way::Blocked, Way::InDebt, Way::BehindItsOwn],
+        }
+    }
+}
 
 /// Offers a row's frame behind all its neighbours in the same instant, with the
 /// credit of its class as low as it can be.
@@ -39,7 +47,7 @@ pub fn hunt(driver: &mut Driver, row: usize, way: Way) {
         driver.offer(other);
     }
     driver.offer(row);
-    if way == Way::BehindItsOwn && class == Class::B {
+    if way == Way::BehindItsOwn {
         until_next(driver, row);
         backlog(driver);
     } else if !alone {

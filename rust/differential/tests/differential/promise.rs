@@ -7,7 +7,7 @@ use cases::{specimen, tables};
 use simulator::{Class, Table};
 
 use crate::bench::{Bench, Reported};
-use crate::hunt::{hunt, WAYS};
+use crate::hunt::{hunt, Way};
 
 /// The longest period of a table that is hunted on.
 const LONGEST: u64 = 200_000;
@@ -16,7 +16,7 @@ pub fn run(bench: &mut Bench) {
     let mut random = Random::new(8);
     let mut closest = Closest::default();
     on_table(bench, &mut random, &mut closest, specimen::table());
-    for _ in 0..bench.times(40) {
+    for _ in 0..bench.times(400) {
         for class in [Class::A, Class::B] {
             let table = tables::tight(&mut random, class);
             on_table(bench, &mut random, &mut closest, table);
@@ -28,17 +28,29 @@ pub fn run(bench: &mut Bench) {
     closest.is_close();
 }
 
-/// Hunts for each row's oldest frame, then dense traffic, in one list.
+/// Hunts for each row's oldest frame, each time from a fresh port or, on some
+/// tables, one after the other in one list; then dense traffic.
 fn on_table(bench: &mut Bench, random: &mut Random, closest: &mut Closest, table: Table) {
-    let mut driver = Driver::new(table);
-    for row in 0..driver.port.table.rows.len() {
-        for way in WAYS {
-            hunt(&mut driver, row, way);
+    let in_one_list = random.one_in(20);
+    let mut driver = Driver::new(table.clone());
+    for (row, way) in hunts(&table) {
+        hunt(&mut driver, row, way);
+        if !in_one_list {
+            closest.see(&table, &bench.replay_played(&driver, 0));
+            driver = Driver::new(table.clone());
         }
     }
     dense_calls(random, &mut driver, 1000);
     driver.drain();
-    closest.see(&driver.port.table, &bench.replay_played(&driver, 0));
+    closest.see(&table, &bench.replay_played(&driver, 0));
+}
+
+/// Each row with each way to hold its frame up.
+fn hunts(table: &Table) -> Vec<(usize, Way)> {
+    let rows = table.rows.iter().enumerate();
+    let ways = |class| Way::of(class).iter();
+    rows.flat_map(|(place, row)| ways(row.class).map(move |way| (place, *way)))
+        .collect()
 }
 
 /// The ages that came closest to their bounds: in A, in B where there is no
