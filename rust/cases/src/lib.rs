@@ -1,10 +1,11 @@
-//! What the tests and benchmarks are made of: tables, files, lines and lists of
-//! calls from a deterministic generator, and the watch that holds a list with
-//! its answers to document 01's demand 3.
+//! What the tests and benchmarks are made of: tables, files, lines, lists of
+//! calls and port records from a deterministic generator, and the watch that
+//! holds a list with its answers to document 01's demand 3.
 
 pub mod driver;
 pub mod files;
 pub mod lines;
+pub mod ports;
 pub mod random;
 pub mod specimen;
 pub mod tables;

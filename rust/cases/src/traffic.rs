@@ -36,7 +36,7 @@ fn any_payload(random: &mut Random, most: u64) -> u64 {
 }
 
 fn any_count(random: &mut Random) -> u64 {
-    match random.below(8) {
+    match random.below(16) {
         0 => random.pick(&[0, 1, MOST_ADVANCE, MOST_ADVANCE + 1, 1 << 32, u64::MAX]),
         1 => random.between(0, MOST_ADVANCE),
         _ => random.between(0, 3000),

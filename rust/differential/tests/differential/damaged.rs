@@ -1,10 +1,11 @@
 //! Damaged records: the clauses of "broken" alone and in pairs, words of any
-//! value at every place, wrong lengths, and junk in the places that belong to
-//! no part.
+//! value at every place, wrong lengths, junk in the places that belong to no
+//! part, and changed parts of ports that lists have led to.
 
 use std::collections::BTreeSet;
 
 use cases::driver::Driver;
+use cases::ports;
 use cases::random::Random;
 use cases::tables;
 use cases::traffic::any_call;
@@ -26,7 +27,7 @@ const AGE: u64 = 300_000;
 pub fn run(bench: &mut Bench) {
     let mut random = Random::new(5);
     let mut seen = BTreeSet::new();
-    for _ in 0..bench.times(2) {
+    for _ in 0..bench.times(4) {
         for port in sound_ports(&mut random) {
             assert_eq!(broken(&port), None);
             clauses(bench, &mut random, &port, &mut seen);
@@ -35,6 +36,9 @@ pub fn run(bench: &mut Bench) {
             lengths(bench, &port);
             junk(bench, &mut random, &port);
         }
+    }
+    for _ in 0..bench.times(7000) {
+        changed(bench, &mut random, &mut seen);
     }
     for clause in CLAUSES {
         assert!(seen.contains(clause), "no record for: {clause}");
@@ -226,6 +230,23 @@ fn lengths(bench: &mut Bench, port: &Port) {
     let mut with_zeros = twice;
     with_zeros[RECORD_SIZE..].fill(0);
     call(bench, &with_zeros, Call::Advance(1));
+}
+
+/// Records of a port that a list has led to, with a few of its parts changed.
+fn changed(bench: &mut Bench, random: &mut Random, seen: &mut BTreeSet<&str>) {
+    let sound = ports::reached(random);
+    for _ in 0..40 {
+        let mut port = sound.clone();
+        for _ in 0..random.between(1, 3) {
+            ports::change(random, &mut port);
+        }
+        seen.extend(broken(&port));
+        let mut record = Record::from(&port).bytes();
+        for _ in 0..4 {
+            let made = any_call(random, &sound.table);
+            bench.call(&mut record, &call_bytes(made), ANSWER_SIZE);
+        }
+    }
 }
 
 /// Junk in the places that belong to no part, as far as it fits the fields.

@@ -17,20 +17,22 @@ pub fn run(bench: &mut Bench) {
     every_room(bench, &largest);
     every_byte(bench, &largest);
     every_cut(bench, &largest);
-    for _ in 0..bench.times(20) {
+    for _ in 0..bench.times(100) {
         let file = any_file(&mut random);
         every_room(bench, &file);
         every_cut(bench, &file);
     }
-    for _ in 0..bench.times(3) {
+    for _ in 0..bench.times(6) {
         every_byte(bench, &file_of(&tables::accepted(&mut random)));
     }
-    for _ in 0..bench.times(20_000) {
+    for _ in 0..bench.times(400_000) {
         let file = any_file(&mut random);
-        let file = damaged(&mut random, &file);
-        both(bench, &mut random, &file);
+        for _ in 0..4 {
+            let file = damaged(&mut random, &file);
+            both(bench, &mut random, &file);
+        }
     }
-    for _ in 0..bench.times(20_000) {
+    for _ in 0..bench.times(200_000) {
         let file = noise(&mut random);
         both(bench, &mut random, &file);
     }

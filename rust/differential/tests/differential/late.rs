@@ -1,5 +1,6 @@
 //! Records with a clock near its last value, and beyond it.
 
+use cases::ports::reached;
 use cases::random::Random;
 use cases::specimen;
 use cases::traffic::any_call;
@@ -11,7 +12,6 @@ use crate::bench::Bench;
 
 pub fn run(bench: &mut Bench) {
     let mut random = Random::new(6);
-    let table = specimen::table();
     for left in [0, 1, 2, 99, 100, 101, 65_534, 65_535, 65_536, 100_000] {
         for port in ports() {
             let late = moved(port, LAST_CLOCK - left);
@@ -19,16 +19,16 @@ pub fn run(bench: &mut Bench) {
                 advance(bench, &late, left, n);
             }
             for _ in 0..bench.times(10) {
-                let mut record = Record::from(&late).bytes();
-                for _ in 0..50 {
-                    let call = any_call(&mut random, &table);
-                    bench.call(&mut record, &call_bytes(call), ANSWER_SIZE);
-                }
+                any_calls(bench, &mut random, &late);
             }
+        }
+        for _ in 0..bench.times(200) {
+            let port = reached(&mut random);
+            any_calls(bench, &mut random, &moved(port, LAST_CLOCK - left));
         }
     }
     for clock in [LAST_CLOCK + 1, i64::MAX as u64, 1 << 63, u64::MAX] {
-        let mut record = Record::from(&Port::fresh(table.clone()));
+        let mut record = Record::from(&Port::fresh(specimen::table()));
         record.clock = clock;
         let said = bench.call(
             &mut record.bytes(),
@@ -49,6 +49,15 @@ fn ports() -> [Port; 2] {
     busy.offer_best(1500).expect("a sound port");
     busy.advance(1).expect("a sound port");
     [fresh, busy]
+}
+
+/// Calls one by one on a port's record.
+fn any_calls(bench: &mut Bench, random: &mut Random, port: &Port) {
+    let mut record = Record::from(port).bytes();
+    for _ in 0..50 {
+        let call = any_call(random, &port.table);
+        bench.call(&mut record, &call_bytes(call), ANSWER_SIZE);
+    }
 }
 
 /// The same port at another clock.

@@ -17,11 +17,11 @@ pub fn run(bench: &mut Bench) {
     let mut random = Random::new(2);
     let mut seen = Seen::new();
     every_room(bench, &FILE);
-    for _ in 0..bench.times(2000) {
+    for _ in 0..bench.times(20_000) {
         let file = file_of(&tables::accepted(&mut random));
         assert_eq!(bench.open(&file, RECORD_SIZE), Ok(()));
     }
-    for _ in 0..bench.times(20_000) {
+    for _ in 0..bench.times(200_000) {
         let table = tables::edge(&mut random);
         let file = match random.below(16) {
             0 => file_stating(&table, || random.one_in(8)),

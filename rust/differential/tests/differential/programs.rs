@@ -10,7 +10,7 @@ use std::process::{self, Child, Command, Output, Stdio};
 use std::thread;
 
 use cases::driver::Driver;
-use cases::files::{damaged, noise};
+use cases::files::{any_file, damaged, noise};
 use cases::lines;
 use cases::random::Random;
 use cases::specimen::{self, FILE};
@@ -41,12 +41,12 @@ pub fn run(bench: &mut Bench) {
             programs.list(bench, &FILE, text.as_bytes(), by_bytes);
         }
     }
-    for _ in 0..bench.times(150) {
-        let file = any_file(&mut random);
+    for _ in 0..bench.times(1000) {
+        let file = mostly_accepted(&mut random);
         programs.sheet(bench, &file, random.one_in(4));
     }
-    for _ in 0..bench.times(150) {
-        let file = any_file(&mut random);
+    for _ in 0..bench.times(1000) {
+        let file = mostly_accepted(&mut random);
         let text = any_text(&mut random, &file);
         programs.list(bench, &file, &text, random.one_in(4));
     }
@@ -163,12 +163,12 @@ fn count(bench: &mut Bench, text: &str) {
 }
 
 /// A file, of an accepted table most of the time.
-fn any_file(random: &mut Random) -> Vec<u8> {
+fn mostly_accepted(random: &mut Random) -> Vec<u8> {
     match random.below(8) {
         0 => damaged(random, &FILE),
-        1 => file_of(&tables::edge(random)),
+        1 => any_file(random),
         2 => noise(random),
-        _ => file_of(&tables::accepted(random)),
+        _ => file_of(&tables::lively(random)),
     }
 }
 

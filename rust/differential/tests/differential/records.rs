@@ -12,8 +12,8 @@ use crate::bench::Bench;
 
 pub fn run(bench: &mut Bench) {
     let mut random = Random::new(4);
-    for _ in 0..bench.times(60) {
-        let table = tables::accepted(&mut random);
+    for _ in 0..bench.times(600) {
+        let table = tables::lively(&mut random);
         let mut driver = Driver::new(table.clone());
         random_calls(&mut random, &mut driver, 100);
         dense_calls(&mut random, &mut driver, 200);
@@ -53,7 +53,7 @@ fn misfits(bench: &mut Bench, random: &mut Random) {
     for room in 0..ANSWER_SIZE * 2 {
         bench.call(&mut record, &call_bytes(any_call(random, &table)), room);
     }
-    for _ in 0..bench.times(2000) {
+    for _ in 0..bench.times(20_000) {
         let mut call = call_bytes(any_call(random, &table));
         if random.one_in(2) {
             call[random.below(CALL_SIZE)] ^= 1 << random.below(8);

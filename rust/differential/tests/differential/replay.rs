@@ -1,19 +1,19 @@
 //! Lists of calls.
 
 use cases::driver::Driver;
-use cases::files::damaged;
+use cases::files::{any_file, damaged};
 use cases::random::Random;
 use cases::specimen::FILE;
 use cases::tables;
 use cases::traffic::TRAFFIC;
 use ithumeco::{list_bytes, put_words, CALL_SIZE};
-use simulator::{file_of, Call};
+use simulator::Call;
 
 use crate::bench::Bench;
 
 pub fn run(bench: &mut Bench) {
     let mut random = Random::new(3);
-    for _ in 0..bench.times(150) {
+    for _ in 0..bench.times(2000) {
         let count = random.below(600);
         played(bench, &mut random, count);
     }
@@ -21,10 +21,10 @@ pub fn run(bench: &mut Bench) {
     misfits(bench, &mut random);
 }
 
-/// Lists on the ports of any accepted tables.
+/// Lists on the ports of accepted tables.
 fn played(bench: &mut Bench, random: &mut Random, count: usize) {
     for traffic in TRAFFIC {
-        let mut driver = Driver::new(tables::accepted(random));
+        let mut driver = Driver::new(tables::lively(random));
         traffic(random, &mut driver, count);
         bench.replay_played(&driver, random.below(50));
     }
@@ -48,10 +48,10 @@ fn misfits(bench: &mut Bench, random: &mut Random) {
             bench.replay(&FILE, &calls, answers);
         }
     }
-    for _ in 0..bench.times(4000) {
+    for _ in 0..bench.times(40_000) {
         let file = match random.below(4) {
             0 => damaged(random, &FILE),
-            1 => file_of(&tables::edge(random)),
+            1 => any_file(random),
             _ => FILE.to_vec(),
         };
         let mut calls = calls.clone();

@@ -1,12 +1,17 @@
 //! Random tables, call lists and files. The seeds are fixed.
 
+use std::collections::BTreeSet;
+
 use cases::driver::Driver;
 use cases::files::damaged;
+use cases::ports;
 use cases::random::Random;
 use cases::specimen::{table, FILE};
 use cases::tables;
-use cases::traffic::{dense_calls, random_calls};
+use cases::traffic::{any_call, dense_calls, random_calls};
 use cases::watch::Watch;
+use simulator::port::CLAUSES;
+use simulator::refusal::refuse;
 use simulator::{bounds, broken, portrun, read, write, Advance, Mark, Refusal};
 
 /// The longest period of a table in dense traffic.
@@ -37,6 +42,33 @@ fn dense_lists_keep_the_promise() {
     println!("{reported} frames reported, the oldest at {closest}/1000 of its bound");
     assert!(reported > 40_000);
     assert!(closest > 950);
+}
+
+#[test]
+fn a_broken_record_refuses_every_call() {
+    let mut random = Random::new(5);
+    let mut seen = BTreeSet::new();
+    for _ in 0..500 {
+        let sound = ports::reached(&mut random);
+        assert_eq!(broken(&sound), None);
+        for _ in 0..100 {
+            let mut port = sound.clone();
+            for _ in 0..random.between(1, 3) {
+                ports::change(&mut random, &mut port);
+            }
+            let before = port.clone();
+            let clause = broken(&port);
+            let answer = port.make(any_call(&mut random, &sound.table));
+            assert_eq!(answer == refuse(18, 0), clause.is_some());
+            assert!(
+                answer.is_ok() || port == before,
+                "a refusal changes nothing"
+            );
+            seen.insert(clause);
+        }
+    }
+    let clauses = CLAUSES.into_iter().map(Some);
+    assert!(clauses.chain([None]).all(|clause| seen.contains(&clause)));
 }
 
 #[test]

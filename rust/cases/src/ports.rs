@@ -1,0 +1,162 @@
+//! Port records: those that lists of calls have led to, and changed ones.
+
+use std::collections::VecDeque;
+
+use simulator::port::LAST_CLOCK;
+use simulator::table::{accept, Accepted, MOST_ROWS};
+use simulator::{Call, Frame, Mark, Port, Wire};
+
+use crate::driver::Driver;
+use crate::random::Random;
+use crate::tables;
+use crate::traffic::TRAFFIC;
+
+/// A port that a list of calls has led to.
+pub fn reached(random: &mut Random) -> Port {
+    let mut driver = Driver::new(tables::lively(random));
+    let count = random.below(100);
+    random.pick(&TRAFFIC)(random, &mut driver, count);
+    driver.make(Call::Advance(random.between(0, 300)));
+    driver.port
+}
+
+/// Changes a part of a port, to an edge of the rules for records or across it.
+/// A port whose table is not accepted stays as it is.
+pub fn change(random: &mut Random, port: &mut Port) {
+    let Ok(plan) = accept(&port.table) else {
+        return;
+    };
+    match random.below(12) {
+        0 => tables::change(random, &mut port.table),
+        1 => {
+            let next = port.clock.wrapping_add(1);
+            port.clock = random.pick(&[next, LAST_CLOCK, LAST_CLOCK + 1, u64::MAX]);
+        }
+        2 => change_credit(random, port, &plan),
+        3 => change_last(random, port),
+        4 => change_wire(random, port),
+        5 => {
+            let copied = any_frame(random, port);
+            put(random, port, copied);
+        }
+        6 => {
+            let moved = any_queue(random, port).pop_front();
+            put(random, port, moved);
+        }
+        7 => drop(any_queue(random, port).pop_back()),
+        _ => change_frame(random, port, &plan),
+    }
+}
+
+fn change_credit(random: &mut Random, port: &mut Port, plan: &Accepted) {
+    let (class, credit) = match random.below(2) {
+        0 => (&plan.a, &mut port.credit_a),
+        _ => (&plan.b, &mut port.credit_b),
+    };
+    let lowest = -((class.send * class.largest) as i64);
+    let highest = (class.idle * class.blocking) as i64;
+    let edges = [lowest - 1, lowest, highest, highest + 1, 0, 1, -1];
+    *credit = random.pick(&edges);
+}
+
+fn change_last(random: &mut Random, port: &mut Port) {
+    let last = &mut port.last[random.below(port.table.rows.len())];
+    let clock = port.clock;
+    let known = last.unwrap_or(clock);
+    let edges = [clock, clock.wrapping_add(1), known.wrapping_sub(1)];
+    *last = (!random.one_in(4)).then(|| random.pick(&edges));
+}
+
+fn change_wire(random: &mut Random, port: &mut Port) {
+    match &mut port.wire {
+        Wire::Sending(frame, left) => {
+            let edges = [0, 1, frame.size, frame.size + 1, left.wrapping_sub(1)];
+            *left = random.pick(&edges);
+        }
+        Wire::Free => {
+            let frame = any_frame(random, port);
+            port.wire = frame.map_or(Wire::Free, |frame| Wire::Sending(frame, frame.size));
+        }
+    }
+}
+
+/// The frames in the queues and on the wire.
+fn frames(port: &mut Port) -> Vec<&mut Frame> {
+    let on_wire = match &mut port.wire {
+        Wire::Sending(frame, _) => Some(frame),
+        Wire::Free => None,
+    };
+    let queues = [&mut port.queue_a, &mut port.queue_b, &mut port.queue_best];
+    queues.into_iter().flatten().chain(on_wire).collect()
+}
+
+fn any_frame(random: &mut Random, port: &mut Port) -> Option<Frame> {
+    let frames = frames(port);
+    (!frames.is_empty()).then(|| *frames[random.below(frames.len())])
+}
+
+fn any_queue<'a>(random: &mut Random, port: &'a mut Port) -> &'a mut VecDeque<Frame> {
+    match random.below(3) {
+        0 => &mut port.queue_a,
+        1 => &mut port.queue_b,
+        _ => &mut port.queue_best,
+    }
+}
+
+/// Puts a frame at an end of a queue.
+fn put(random: &mut Random, port: &mut Port, frame: Option<Frame>) {
+    let at_the_back = random.one_in(2);
+    let queue = any_queue(random, port);
+    match frame {
+        Some(frame) if at_the_back => queue.push_back(frame),
+        Some(frame) => queue.push_front(frame),
+        None => (),
+    }
+}
+
+/// Changes a frame, and at times its row's last instant with it.
+fn change_frame(random: &mut Random, port: &mut Port, plan: &Accepted) {
+    let count = frames(port).len();
+    if count == 0 {
+        return;
+    }
+    let place = random.below(count);
+    let mut frame = *frames(port)[place];
+    match random.below(4) {
+        0 => frame.mark = any_mark(random, port),
+        1 => {
+            let most = match frame.mark {
+                Mark::Row(row) => port.table.rows.get(row).map_or(0, |row| row.size()),
+                Mark::BestEffort => port.table.best_size(),
+            };
+            frame.size = random.pick(&[83, 84, most, most + 1, frame.size + 1]);
+        }
+        2 => frame.instant = any_instant(random, port, plan, frame),
+        _ => frame = *frames(port)[random.below(count)],
+    }
+    *frames(port)[place] = frame;
+    if let Mark::Row(row) = frame.mark {
+        if row < MOST_ROWS && random.one_in(2) {
+            port.last[row] = Some(frame.instant);
+        }
+    }
+}
+
+fn any_mark(random: &mut Random, port: &Port) -> Mark {
+    let rows = port.table.rows.len();
+    match random.below(4) {
+        0 => Mark::BestEffort,
+        1 => Mark::Row(random.pick(&[rows, MOST_ROWS + 1, usize::MAX >> 32])),
+        _ => Mark::Row(random.below(rows)),
+    }
+}
+
+/// Instants about the clock, the frame's own and the end of its row's bound.
+fn any_instant(random: &mut Random, port: &Port, plan: &Accepted, frame: Frame) -> u64 {
+    let age = match frame.mark {
+        Mark::Row(row) => plan.bounds.get(row).copied().unwrap_or(0),
+        Mark::BestEffort => port.clock,
+    };
+    let instant = random.pick(&[port.clock, frame.instant, port.clock.wrapping_sub(age)]);
+    instant.wrapping_add(random.pick(&[0, 1, u64::MAX]))
+}
