@@ -20,6 +20,19 @@ pub fn reached(random: &mut Random) -> Port {
     driver.port
 }
 
+/// The same port at a later clock.
+pub fn moved(mut port: Port, clock: u64) -> Port {
+    let by = clock - port.clock;
+    port.clock = clock;
+    for frame in frames(&mut port) {
+        frame.instant += by;
+    }
+    for last in port.last.iter_mut().flatten() {
+        *last += by;
+    }
+    port
+}
+
 /// Changes a part of a port, to an edge of the rules for records or across it.
 /// A port whose table is not accepted stays as it is.
 pub fn change(random: &mut Random, port: &mut Port) {
@@ -53,8 +66,7 @@ fn change_credit(random: &mut Random, port: &mut Port, plan: &Accepted) {
         0 => (&plan.a, &mut port.credit_a),
         _ => (&plan.b, &mut port.credit_b),
     };
-    let lowest = -((class.send * class.largest) as i64);
-    let highest = (class.idle * class.blocking) as i64;
+    let (lowest, highest) = class.credit_range().into_inner();
     let edges = [lowest - 1, lowest, highest, highest + 1, 0, 1, -1];
     *credit = random.pick(&edges);
 }
@@ -146,7 +158,7 @@ fn any_mark(random: &mut Random, port: &Port) -> Mark {
     let rows = port.table.rows.len();
     match random.below(4) {
         0 => Mark::BestEffort,
-        1 => Mark::Row(random.pick(&[rows, MOST_ROWS + 1, usize::MAX >> 32])),
+        1 => Mark::Row(random.pick(&[rows, MOST_ROWS + 1, u32::MAX as usize])),
         _ => Mark::Row(random.below(rows)),
     }
 }

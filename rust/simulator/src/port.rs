@@ -3,7 +3,7 @@
 use std::collections::VecDeque;
 
 use crate::refusal::{refuse, Refusal};
-use crate::table::{accept, wire_size, Class, Figures, Table, MOST_ROWS};
+use crate::table::{accept, wire_size, Class, Table, MOST_ROWS};
 
 /// "a clock (0 to 1,099,511,627,775)"
 pub const LAST_CLOCK: u64 = 1_099_511_627_775;
@@ -191,15 +191,10 @@ pub fn broken(port: &Port) -> Option<&'static str> {
     if port.clock > LAST_CLOCK {
         return Some(CLAUSES[1]);
     }
-    let in_range = |class: &Figures, credit: i64| {
-        let lowest = -((class.send * class.largest) as i64);
-        let highest = (class.idle * class.blocking) as i64;
-        (lowest..=highest).contains(&credit)
-    };
-    if !in_range(&accepted.a, port.credit_a) {
+    if !accepted.a.credit_range().contains(&port.credit_a) {
         return Some(CLAUSES[2]);
     }
-    if !in_range(&accepted.b, port.credit_b) {
+    if !accepted.b.credit_range().contains(&port.credit_b) {
         return Some(CLAUSES[3]);
     }
 

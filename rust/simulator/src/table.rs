@@ -95,6 +95,13 @@ impl Figures {
     pub fn bound(&self, size: u64) -> u64 {
         size + self.blocking + (D * (self.sum - size) + self.send * self.largest) / self.idle
     }
+
+    /// The range of the class's credit: "−S × L to I × H".
+    pub fn credit_range(&self) -> RangeInclusive<i64> {
+        let lowest = -((self.send * self.largest) as i64);
+        let highest = (self.idle * self.blocking) as i64;
+        lowest..=highest
+    }
 }
 
 /// The questions about a table whose row count and values are in range.

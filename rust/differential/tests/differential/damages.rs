@@ -100,11 +100,11 @@ pub const DAMAGES: &[Damage] = &[
 ];
 
 fn lowest(class: &Figures) -> u64 {
-    (class.send * class.largest).wrapping_neg()
+    *class.credit_range().start() as u64
 }
 
 fn highest(class: &Figures) -> u64 {
-    class.idle * class.blocking
+    *class.credit_range().end() as u64
 }
 
 fn fill_best(record: &mut Record, count: u64) {

@@ -1,12 +1,12 @@
 //! Records with a clock near its last value, and beyond it.
 
-use cases::ports::reached;
+use cases::ports::{moved, reached};
 use cases::random::Random;
 use cases::specimen;
 use cases::traffic::any_call;
 use ithumeco::{call_bytes, Answer, Record, ANSWER_SIZE};
 use simulator::port::{LAST_CLOCK, MOST_ADVANCE};
-use simulator::{Call, Port, Wire};
+use simulator::{Call, Port};
 
 use crate::bench::Bench;
 
@@ -58,23 +58,6 @@ fn any_calls(bench: &mut Bench, random: &mut Random, port: &Port) {
         let call = any_call(random, &port.table);
         bench.call(&mut record, &call_bytes(call), ANSWER_SIZE);
     }
-}
-
-/// The same port at another clock.
-fn moved(mut port: Port, clock: u64) -> Port {
-    let by = clock - port.clock;
-    port.clock = clock;
-    let queues = [&mut port.queue_a, &mut port.queue_b, &mut port.queue_best];
-    for frame in queues.into_iter().flatten() {
-        frame.instant += by;
-    }
-    for last in port.last.iter_mut().flatten() {
-        *last += by;
-    }
-    if let Wire::Sending(frame, _) = &mut port.wire {
-        frame.instant += by;
-    }
-    port
 }
 
 /// Counts around the time that is left and around the most there is.
