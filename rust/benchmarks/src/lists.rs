@@ -3,7 +3,7 @@
 use std::hint::black_box;
 use std::iter;
 
-use ithumeco::{call_bytes, list_bytes, ANSWER_SIZE, RECORD_SIZE};
+use ithumeco::{call_bytes, list_bytes, Answer, ANSWER_SIZE, RECORD_SIZE};
 use simulator::{opened, Call, Port};
 
 use crate::clock::{compare, Compared};
@@ -33,7 +33,7 @@ pub fn replayed(file: &[u8], calls: &[Call], units: u64) -> Compared<2> {
     compare(
         units,
         [&mut || replay(file, &bytes, &mut answers), &mut || {
-            black_box(simulate(file, calls));
+            simulated(file, calls)
         }],
     )
 }
@@ -47,12 +47,14 @@ pub fn called(file: &[u8], calls: &[Call], units: u64) -> Compared<3> {
         units,
         [
             &mut || call_each(file, calls),
-            &mut || {
-                black_box(simulate(file, calls));
-            },
+            &mut || simulated(file, calls),
             &mut || replay(file, &bytes, &mut answers),
         ],
     )
+}
+
+fn simulated(file: &[u8], calls: &[Call]) {
+    black_box(simulate(file, calls));
 }
 
 fn replay(file: &[u8], calls: &[u8], answers: &mut [u8]) {
@@ -66,4 +68,5 @@ fn call_each(file: &[u8], calls: &[Call]) {
     for call in calls {
         ithumeco::call(&mut record, &call_bytes(*call), &mut answer).expect("the call is made");
     }
+    assert_eq!(Answer::from_bytes(&answer).number, 0, "a refusal");
 }
