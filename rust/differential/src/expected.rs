@@ -69,20 +69,17 @@ pub fn call(saved: &mut [u8], call: &[u8], out: &mut [u8]) -> Outcome {
 /// One call on bytes that may be a record.
 fn answer_on(saved: &mut [u8], call: Call) -> Answer {
     let broken = Answer::refused(18);
-    let Ok(bytes) = <&[u8; RECORD_SIZE]>::try_from(&*saved) else {
+    let Some(saved) = saved.first_chunk_mut::<RECORD_SIZE>() else {
         return broken;
     };
-    let before = Record::from_bytes(bytes);
-    let Some(mut port) = port_of(&before) else {
+    let mut record = Record::from_bytes(saved);
+    let Some(mut port) = port_of(&record) else {
         return broken;
     };
     let said = Answer::from(port.make(call));
     if said.number == 0 {
-        let mut after = Record::from(&port);
-        // The table stands whole: its places not in use are kept.
-        let in_use = port.table.rows.len();
-        after.rows[in_use..].copy_from_slice(&before.rows[in_use..]);
-        saved.copy_from_slice(&after.bytes());
+        record.store(&port);
+        *saved = record.bytes();
     }
     said
 }

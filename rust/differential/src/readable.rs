@@ -2,25 +2,37 @@
 
 use std::collections::VecDeque;
 
-use ithumeco::{FrameWords, QueueWords, Record, RowWords, WireWords};
+use ithumeco::{FrameWords, QueueWords, Record, RowWords, WireWords, VERSION};
 use simulator::{Class, Frame, Mark, Port, Row, Table, Wire};
 
 const U16: u64 = u16::MAX as u64;
 const U32: u64 = u32::MAX as u64;
 
-/// Whether every word fits its field, in the places not in use too. A count, a
-/// clock, a credit and an instant take any word.
+/// Whether every word in use fits its field. A clock, a credit and an instant
+/// take any word.
 fn fits(record: &Record) -> bool {
-    let waiting = record.queue_a.frames.iter();
-    let waiting = waiting.chain(&record.queue_b.frames);
-    let mut waiting = waiting.chain(&record.queue_best.frames);
-    record.idle_a <= U32
+    let Some(rows) = in_use(&record.rows, record.count) else {
+        return false;
+    };
+    record.version == VERSION
+        && record.idle_a <= U32
         && record.idle_b <= U32
         && record.best_payload <= U16
-        && record.rows.iter().all(row_fits)
-        && waiting.all(frame_fits)
-        && record.last.iter().all(|last| last.known <= 1)
+        && rows.iter().all(row_fits)
+        && queue_fits(&record.queue_a)
+        && queue_fits(&record.queue_b)
+        && queue_fits(&record.queue_best)
+        && record.last[..rows.len()].iter().all(|last| last.known <= 1)
         && wire_fits(&record.wire)
+}
+
+/// The first places, as many as a count says; none if it says more.
+fn in_use<T>(places: &[T], count: u64) -> Option<&[T]> {
+    places.get(..usize::try_from(count).ok()?)
+}
+
+fn queue_fits<const PLACES: usize>(queue: &QueueWords<PLACES>) -> bool {
+    in_use(&queue.frames, queue.count).is_some_and(|frames| frames.iter().all(frame_fits))
 }
 
 fn row_fits(row: &RowWords) -> bool {
@@ -33,35 +45,31 @@ fn frame_fits(frame: &FrameWords) -> bool {
 
 fn wire_fits(wire: &WireWords) -> bool {
     match wire.tag {
-        0 => *wire == WireWords::default(),
+        0 => true,
         1 => frame_fits(&wire.frame) && wire.left <= U32,
         _ => false,
     }
 }
 
-/// The port that a record names, none if a word does not fit its field. A count
-/// above the places stands for one more thing than there are places, which is
-/// enough to make the record broken.
+/// The port that a record names, none if a word in use does not fit its field.
 pub fn port_of(record: &Record) -> Option<Port> {
     if !fits(record) {
         return None;
     }
-    let mut rows: Vec<Row> = record.rows.iter().map(row_of).collect();
-    rows.push(rows[0]);
-    rows.truncate(record.count.min(33) as usize);
+    let rows = in_use(&record.rows, record.count)?.iter();
     Some(Port {
         table: Table {
             idle_a: record.idle_a,
             idle_b: record.idle_b,
             best_payload: record.best_payload,
-            rows,
+            rows: rows.map(row_of).collect(),
         },
         clock: record.clock,
         credit_a: record.credit_a as i64,
         credit_b: record.credit_b as i64,
-        queue_a: queue_of(&record.queue_a),
-        queue_b: queue_of(&record.queue_b),
-        queue_best: queue_of(&record.queue_best),
+        queue_a: queue_of(&record.queue_a)?,
+        queue_b: queue_of(&record.queue_b)?,
+        queue_best: queue_of(&record.queue_best)?,
         last: record
             .last
             .iter()
@@ -94,13 +102,7 @@ fn frame_of(frame: &FrameWords) -> Frame {
     }
 }
 
-fn queue_of<const PLACES: usize>(queue: &QueueWords<PLACES>) -> VecDeque<Frame> {
-    let mut frames: VecDeque<Frame> = queue.frames.iter().map(frame_of).collect();
-    frames.push_back(Frame {
-        mark: Mark::Row(33),
-        size: 0,
-        instant: 0,
-    });
-    frames.truncate(queue.count.min(PLACES as u64 + 1) as usize);
-    frames
+fn queue_of<const PLACES: usize>(queue: &QueueWords<PLACES>) -> Option<VecDeque<Frame>> {
+    let frames = in_use(&queue.frames, queue.count)?;
+    Some(frames.iter().map(frame_of).collect())
 }

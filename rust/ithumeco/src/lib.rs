@@ -12,5 +12,6 @@ pub use calls::{call_bytes, list_bytes, CALL_SIZE};
 pub use library::{bounds, call, open, replay, rewrite, BOUNDS_SIZE};
 pub use records::{
     FrameWords, LastWords, QueueWords, Record, RowWords, WireWords, RECORD_SIZE, RECORD_WORDS,
+    VERSION,
 };
 pub use words::{put_words, words, WORD_SIZE};

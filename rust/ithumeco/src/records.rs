@@ -1,11 +1,16 @@
 //! A port record as bytes.
 
+use std::collections::VecDeque;
+
 use simulator::{Class, Frame, Port, Wire};
 
 use crate::words::{put_words, words, WORD_SIZE};
 
+/// The version of the layout, a record's first word.
+pub const VERSION: u64 = 1_000_001;
+
 /// The size of a record in words.
-pub const RECORD_WORDS: usize = 447;
+pub const RECORD_WORDS: usize = 448;
 
 /// The size of a record in bytes.
 pub const RECORD_SIZE: usize = RECORD_WORDS * WORD_SIZE;
@@ -34,14 +39,14 @@ pub struct QueueWords<const PLACES: usize> {
     pub frames: [FrameWords; PLACES],
 }
 
-/// A row's last instant: whether it has one (0 or 1), and the instant.
+/// A row's last instant: a mark, 1 if it has one, else 0; and the instant.
 #[derive(Clone, Copy, Debug, Default, PartialEq, Eq)]
 pub struct LastWords {
     pub known: u64,
     pub taken: u64,
 }
 
-/// The wire: 0 and zeros when free; 1, the frame and its bytes left.
+/// The wire: 0 when free; 1, the frame and its bytes left.
 #[derive(Clone, Copy, Debug, Default, PartialEq, Eq)]
 pub struct WireWords {
     pub tag: u64,
@@ -52,6 +57,7 @@ pub struct WireWords {
 /// A record's words by name. Each may hold any value.
 #[derive(Clone, Debug, PartialEq, Eq)]
 pub struct Record {
+    pub version: u64,
     pub idle_a: u64,
     pub idle_b: u64,
     pub best_payload: u64,
@@ -98,6 +104,7 @@ impl Record {
     /// A record of zeros.
     pub fn zeros() -> Record {
         Record {
+            version: 0,
             idle_a: 0,
             idle_b: 0,
             best_payload: 0,
@@ -116,6 +123,7 @@ impl Record {
 
     /// The words in their order.
     fn each(&mut self, visit: &mut impl FnMut(&mut u64)) {
+        visit(&mut self.version);
         visit(&mut self.idle_a);
         visit(&mut self.idle_b);
         visit(&mut self.best_payload);
@@ -166,35 +174,25 @@ fn frame_words(frame: &Frame) -> FrameWords {
     }
 }
 
-fn queue_words<'a, const PLACES: usize>(
-    waiting: impl ExactSizeIterator<Item = &'a Frame>,
-) -> QueueWords<PLACES> {
-    let mut queue = QueueWords::EMPTY;
-    queue.count = waiting.len() as u64;
-    for (place, frame) in queue.frames.iter_mut().zip(waiting) {
-        *place = frame_words(frame);
+impl<const PLACES: usize> QueueWords<PLACES> {
+    fn store(&mut self, waiting: &VecDeque<Frame>) {
+        self.count = waiting.len() as u64;
+        for (place, frame) in self.frames.iter_mut().zip(waiting) {
+            *place = frame_words(frame);
+        }
     }
-    queue
 }
 
-/// A port's record: zeros in the places that belong to no part.
-impl From<&Port> for Record {
-    fn from(port: &Port) -> Record {
+impl Record {
+    /// Stores a port's parts. Words that belong to no part keep their values.
+    pub fn store(&mut self, port: &Port) {
         let table = &port.table;
-        let mut record = Record {
-            idle_a: table.idle_a,
-            idle_b: table.idle_b,
-            best_payload: table.best_payload,
-            count: table.rows.len() as u64,
-            clock: port.clock,
-            credit_a: port.credit_a as u64,
-            credit_b: port.credit_b as u64,
-            queue_a: queue_words(port.queue_a.iter()),
-            queue_b: queue_words(port.queue_b.iter()),
-            queue_best: queue_words(port.queue_best.iter()),
-            ..Record::zeros()
-        };
-        for (place, row) in record.rows.iter_mut().zip(&table.rows) {
+        self.version = VERSION;
+        self.idle_a = table.idle_a;
+        self.idle_b = table.idle_b;
+        self.best_payload = table.best_payload;
+        self.count = table.rows.len() as u64;
+        for (place, row) in self.rows.iter_mut().zip(&table.rows) {
             *place = RowWords {
                 class: match row.class {
                     Class::A => 0,
@@ -205,19 +203,35 @@ impl From<&Port> for Record {
                 deadline: row.deadline,
             };
         }
+        self.clock = port.clock;
+        self.credit_a = port.credit_a as u64;
+        self.credit_b = port.credit_b as u64;
+        self.queue_a.store(&port.queue_a);
+        self.queue_b.store(&port.queue_b);
+        self.queue_best.store(&port.queue_best);
         let in_use = port.last.iter().take(table.rows.len());
-        for (place, last) in record.last.iter_mut().zip(in_use) {
-            if let Some(taken) = *last {
-                *place = LastWords { known: 1, taken };
+        for (place, last) in self.last.iter_mut().zip(in_use) {
+            place.known = u64::from(last.is_some());
+            place.taken = last.unwrap_or(place.taken);
+        }
+        match &port.wire {
+            Wire::Free => self.wire.tag = 0,
+            Wire::Sending(frame, left) => {
+                self.wire = WireWords {
+                    tag: 1,
+                    frame: frame_words(frame),
+                    left: *left,
+                }
             }
         }
-        if let Wire::Sending(frame, left) = &port.wire {
-            record.wire = WireWords {
-                tag: 1,
-                frame: frame_words(frame),
-                left: *left,
-            };
-        }
+    }
+}
+
+/// A port's record: zeros in the words that belong to no part.
+impl From<&Port> for Record {
+    fn from(port: &Port) -> Record {
+        let mut record = Record::zeros();
+        record.store(port);
         record
     }
 }

@@ -1,5 +1,5 @@
 //! Damaged records: the clauses of "broken" alone and in pairs, words of any
-//! value at every place, wrong lengths, junk in the places that belong to no
+//! value at every place, wrong lengths, junk in the words that belong to no
 //! part, and changed parts of ports that lists have led to.
 
 use std::collections::BTreeSet;
@@ -10,10 +10,7 @@ use cases::random::Random;
 use cases::tables;
 use cases::traffic::any_call;
 use differential::readable::port_of;
-use ithumeco::{
-    call_bytes, put_words, words, FrameWords, LastWords, Record, RowWords, ANSWER_SIZE,
-    RECORD_SIZE, WORD_SIZE,
-};
+use ithumeco::{call_bytes, put_words, words, Record, ANSWER_SIZE, RECORD_SIZE, WORD_SIZE};
 use simulator::port::{CLAUSES, LAST_CLOCK};
 use simulator::table::accept;
 use simulator::{broken, Call, Class, Port};
@@ -249,39 +246,17 @@ fn changed(bench: &mut Bench, random: &mut Random, seen: &mut BTreeSet<&str>) {
     }
 }
 
-/// Junk in the places that belong to no part, as far as it fits the fields.
+/// Junk in the words that belong to no part.
 fn junk(bench: &mut Bench, random: &mut Random, port: &Port) {
     for _ in 0..20 {
-        let mut record = Record::from(port);
-        let unused = record.count as usize;
-        for row in &mut record.rows[unused..] {
-            *row = RowWords {
-                class: random.between(0, 1),
-                payload: random.word() >> 48,
-                period: random.word() >> 32,
-                deadline: random.word() >> 32,
-            };
-        }
-        let waiting_a = record.queue_a.count as usize;
-        let waiting_b = record.queue_b.count as usize;
-        let waiting_best = record.queue_best.count as usize;
-        junk_frames(random, &mut record.queue_a.frames[waiting_a..]);
-        junk_frames(random, &mut record.queue_b.frames[waiting_b..]);
-        junk_frames(random, &mut record.queue_best.frames[waiting_best..]);
-        for last in &mut record.last[unused..] {
-            *last = LastWords {
-                known: random.between(0, 1),
-                taken: random.word(),
-            };
-        }
+        let mut record = Record::from_bytes(&junk_bytes(random));
         // A row that was never offered to.
-        let never = record.rows.iter().position(|row| row.class == 0);
-        record.last[never.expect("a row of class A")] = LastWords {
-            known: 0,
-            taken: random.word(),
-        };
+        let mut port = port.clone();
+        let never = port.table.rows.iter().position(|row| row.class == Class::A);
+        port.last[never.expect("a row of class A")] = None;
+        record.store(&port);
         let record = record.bytes();
-        every_call(bench, port, &record);
+        every_call(bench, &port, &record);
         let mut kept = record;
         for _ in 0..10 {
             let made = any_call(random, &port.table);
@@ -290,12 +265,12 @@ fn junk(bench: &mut Bench, random: &mut Random, port: &Port) {
     }
 }
 
-fn junk_frames(random: &mut Random, places: &mut [FrameWords]) {
-    for place in places {
-        *place = FrameWords {
-            source: random.word() >> 32,
-            size: random.word() >> 32,
-            taken: random.word(),
-        };
+/// Random bytes, at times such as fields can hold.
+fn junk_bytes(random: &mut Random) -> [u8; RECORD_SIZE] {
+    let shift = random.pick(&[0, 32, 48, 63]);
+    let mut bytes = [0; RECORD_SIZE];
+    for at in (0..RECORD_SIZE).step_by(WORD_SIZE) {
+        put(&mut bytes, at, random.word() >> shift);
     }
+    bytes
 }

@@ -8,6 +8,10 @@ use simulator::table::{Accepted, Figures};
 pub type Damage = fn(&mut Record, &Accepted);
 
 pub const DAMAGES: &[Damage] = &[
+    // another version of the layout, or one that had none
+    |record, _| record.version += 1,
+    |record, _| record.version -= 1,
+    |record, _| record.version = record.idle_a,
     // "its table isn't accepted"
     |record, _| record.count = 0,
     |record, _| record.count = 33,

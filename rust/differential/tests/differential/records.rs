@@ -5,6 +5,7 @@ use cases::random::Random;
 use cases::specimen;
 use cases::tables;
 use cases::traffic::{any_call, dense_calls, random_calls};
+use differential::readable::port_of;
 use ithumeco::{call_bytes, Answer, Record, ANSWER_SIZE, CALL_SIZE, RECORD_SIZE};
 use simulator::{file_of, Call, Port, Table};
 
@@ -22,9 +23,10 @@ pub fn run(bench: &mut Bench) {
     misfits(bench, &mut random);
 }
 
-/// A fresh record, as the library gives it.
-fn opened(file: &[u8]) -> [u8; RECORD_SIZE] {
-    let mut record = [0xEE; RECORD_SIZE];
+/// A fresh record, as the library gives it, at times in a longer buffer.
+fn opened(random: &mut Random, file: &[u8]) -> Vec<u8> {
+    let room = RECORD_SIZE + random.pick(&[0, 0, 1, 24]);
+    let mut record = random.bytes(room);
     assert_eq!(ithumeco::open(file, &mut record), Ok(()));
     record
 }
@@ -32,19 +34,21 @@ fn opened(file: &[u8]) -> [u8; RECORD_SIZE] {
 /// Makes the calls, and holds the record to a port that the simulator leads
 /// through the same calls.
 fn one_by_one(bench: &mut Bench, random: &mut Random, table: Table, calls: &[Call]) {
-    let mut record = opened(&file_of(&table));
+    let mut record = opened(random, &file_of(&table));
     let mut port = Port::fresh(table);
     for call in calls {
         let room = ANSWER_SIZE + random.pick(&[0, 0, 1, 24]);
         let said = bench.call(&mut record, &call_bytes(*call), room);
         assert_eq!(said, Some(Answer::from(port.make(*call))));
-        assert!(record == Record::from(&port).bytes(), "the port's record");
+        let bytes = record.first_chunk().expect("a record");
+        let named = port_of(&Record::from_bytes(bytes));
+        assert!(named.as_ref() == Some(&port), "the port's record");
     }
 }
 
 /// Calls of any length, answers of any room.
 fn misfits(bench: &mut Bench, random: &mut Random) {
-    let mut record = opened(&specimen::FILE);
+    let mut record = opened(random, &specimen::FILE);
     let table = specimen::table();
     for len in 0..=CALL_SIZE * 2 {
         let call = [call_bytes(Call::Advance(1)); 2].concat();
