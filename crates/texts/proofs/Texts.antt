@@ -7,7 +7,7 @@ use native.Mathlib.Numerals.{add-one}
 use native.Mathlib.Nat.{add-zero, add-suc, pow-le-pow-right, pow-succ', lt-of-not-le, not-suc-le-zero}
 use native.Mathlib.Omega.{arith}
 use lib.ListN.{length, take, drop, set, getD, length-append, length-take, length-set, take-append-drop}
-use lib.Seq.{take-suc, take-suc-set, take-length}
+use lib.Seq.{take-suc, take-suc-set, take-length, take-append-seam}
 use lib.Dec.{leb, ltb}
 use borrow.Author.Tests.{lt-ltb, le-ltb, le-leb, lt-leb, leb-true}
 use Rattle.io.specs.Digits.{glyph, digits, Fewest}
@@ -36,10 +36,6 @@ drop-one (suc n) (x ∷ xs) = drop-one n xs
 
 drop-more : (n : ℕ) (xs ys : List ℕ) → drop n xs ≡ drop n ys → drop (suc n) xs ≡ drop (suc n) ys
 drop-more n xs ys e = sym (drop-one n xs) ∙ ap (λ (zs : List ℕ). drop 1 zs) e ∙ drop-one n ys
-
-take-front : (xs ys : List ℕ) → take (length xs) (xs ++ ys) ≡ xs
-take-front [] ys = refl
-take-front (x ∷ xs) ys = ap (λ (zs : List ℕ). x ∷ zs) (take-front xs ys)
 
 pub one-more : (at i : ℕ) (text before out : List ℕ) → Putting at i text before out → i < length text → at + i < length out → Putting at (i + 1) text before (set out (at + i) (getD text i 0))
 one-more at i text before out p h g =
@@ -72,15 +68,19 @@ within at text before {next} e h = by-test (leb (at + length text) (length befor
     by-test true t z = omega (arith, leb-true (at + length text) (length before) t, z)
     by-test false t z = omega (arith, z)
 
+-- What is put of a text is put of an equal one.
+pub same-text : (at : ℕ) (before : List ℕ) {next : ℕ} {s t after : List ℕ} → s ≡ t → (next ≡ usedBy s at before) × (after ≡ putAt s at before) → (next ≡ usedBy t at before) × (after ≡ putAt t at before)
+same-text at before e p = (rw (← e) (p .0), rw (← e) (p .1))
+
 -- ---- a text that has room
-pub has-room : {at next : ℕ} {text before after : List ℕ} → at + length text ≤ length before → next ≡ usedBy text at before → after ≡ putAt text at before → Put (length text) text before at after next
+pub text-put : {at next : ℕ} {text before after : List ℕ} → (next ≡ usedBy text at before) × (after ≡ putAt text at before) → at + length text ≤ length before → Put (length text) text before at after next
 unfolding usedBy putAt
-has-room {at} {next} {text} {before} {after} room en ea =
+text-put {at} {next} {text} {before} {after} p room =
     let z = le-leb (at + length text) (length before) room in
-    let long : next ≡ at + length text = en ∙ rw z refl in
-    let bytes : after ≡ (take at before ++ text) ++ drop (at + length text) before = ea ∙ rw z refl in
+    let long : next ≡ at + length text = p .0 ∙ rw z refl in
+    let bytes : after ≡ (take at before ++ text) ++ drop (at + length text) before = p .1 ∙ rw z refl in
     let n : length (take at before ++ text) ≡ at + length text = rw (length-append, length-take) (omega arith) in
-    let first : take next after ≡ take at before ++ text = rw (long ∙ sym n, bytes) (take-front (take at before ++ text) (drop (at + length text) before)) in
+    let first : take next after ≡ take at before ++ text = rw (long ∙ sym n, bytes) (take-append-seam (take at before ++ text) (drop (at + length text) before)) in
     record { few = omega (arith, long); bytes = first; long = long }
 
 -- One text behind another.
@@ -125,26 +125,28 @@ unfolding decimal
 spelled n zero h f = absurd (not-suc-le-zero (f .0))
 spelled n (suc k) h f = spelt 20 k n (omega (arith, digits-few n (suc k) h f)) (f .1) (λ g. least n k g f)
 
--- A number's digits put behind a text.
-pub number-put : {n k at next : ℕ} {before after : List ℕ} (text : List ℕ) → n < 2 ^ 64 → Fewest 10 1 n k → take k text ≡ digits 10 k n → k ≡ length (take k text) → Put (length (take k text)) (take k text) before at after next → Put 20 (decimal n) before at after next
-number-put {n} {k} text h f e l p = let same : take k text ≡ decimal n = e ∙ spelled n k h f in record { few = omega (arith, p .few, digits-few n k h f); bytes = p .bytes ∙ rw same refl; long = p .long ∙ rw same refl }
-
--- ---- an answer's line
-decimal-short : (k n : ℕ) → length (decimalBy k n) ≤ k
-decimal-short zero n = omega arith
-decimal-short (suc k) n = by-test (ltb n 10) (decimal-short k (n / 10))
+digits-short : (k n : ℕ) → length (decimalBy k n) ≤ k
+digits-short zero n = omega arith
+digits-short (suc k) n = by-test (ltb n 10) (digits-short k (n / 10))
   where
     by-test : (b : Bool) → length (decimalBy k (n / 10)) ≤ k → length (cond b ((48 + n) ∷ []) (decimalBy k (n / 10) ++ (48 + n % 10) ∷ [])) ≤ suc k
     by-test true h = omega arith
     by-test false h = rw length-append (omega arith)
 
-pair-short : (x y : ℕ) → length (pair x y) ≤ 42
+pub decimal-short : (n : ℕ) → length (decimal n) ≤ 20
 unfolding decimal
-pair-short x y = rw (length-append, length-append, length-append) (omega (arith, decimal-short 20 x, decimal-short 20 y))
+decimal-short n = digits-short 20 n
 
-line-short : (a : Answer) → length (lineOf a) ≤ 50
+pub number-put : (n : ℕ) {at next : ℕ} {before after : List ℕ} → (next ≡ usedBy (decimal n) at before) × (after ≡ putAt (decimal n) at before) → at + 20 ≤ length before → Put 20 (decimal n) before at after next
+number-put n p room = at-most (decimal-short n) (text-put p (omega (arith, decimal-short n)))
+
+-- ---- an answer's line
+pair-short : (x y : ℕ) → length (pair x y) ≤ 42
+pair-short x y = rw (length-append, length-append, length-append) (omega (arith, decimal-short x, decimal-short y))
+
+pub line-short : (a : Answer) → length (lineOf a) ≤ 50
 line-short (Refused number place) = omega (arith, pair-short number place)
 line-short (Passed passed row) = omega (arith, pair-short passed row)
 
 pub answer-put : {at next : ℕ} {before after : List ℕ} (a : Answer) → at + 50 ≤ length before → next ≡ usedBy (lineOf a) at before → after ≡ putAt (lineOf a) at before → Put 50 (lineOf a) before at after next
-answer-put a room en ea = at-most (line-short a) (has-room (omega (arith, line-short a)) en ea)
+answer-put a room en ea = at-most (line-short a) (text-put (en, ea) (omega (arith, line-short a)))

@@ -1,4 +1,5 @@
 // Texts put into a buffer.
+ghost use mathlib.Core.List.{_++_};
 ghost use mathlib.Core.Path.{_≡_};
 ghost use Prim.Native.Nat.{_+_, _≤_};
 ghost use lib.ListN.{length};
@@ -29,32 +30,26 @@ pub fn put(out: &mut [u8], at: usize, text: &[u8]) -> usize
     at + i
 }
 
-// The same of a text that has room.
-fn add(out: &mut [u8], at: usize, text: &[u8]) -> usize
-    requires { ⌜ at + length (now text) ≤ length (now out) ⌝ }
-    ensures { λ r. ⌜ Put (length (now (text .entry))) (now (text .entry)) (now (out .entry)) at (now (out .exit)) r ⌝ }
-{
-    put(out, at, text)
-}
-
-fn put_number(out: &mut [u8], at: usize, n: u64) -> usize
-    requires { ⌜ at + 20 ≤ length (now out) ⌝ }
-    ensures { λ r. ⌜ Put 20 (decimal n) (now (out .entry)) at (now (out .exit)) r ⌝ }
+// A number's digits, put as a text is. A number has at most 20.
+pub fn put_number(out: &mut [u8], at: usize, n: u64) -> usize
+    ensures { λ r. ⌜ r ≡ usedBy (decimal n) at (now (out .entry)) ⌝ }
+    ensures { λ _. ⌜ now (out .exit) ≡ putAt (decimal n) at (now (out .entry)) ⌝ }
 {
     let mut digits = [0u8; 20];
     let k = io::decimal(n, &mut digits);
-    add(out, at, &digits[..k])
+    put(out, at, &digits[..k])
 }
 
-// Two numbers, and the line's end.
-fn put_pair(out: &mut [u8], at: usize, x: u64, y: u64) -> usize
-    requires { ⌜ at + 42 ≤ length (now out) ⌝ }
-    ensures { λ r. ⌜ Put 42 (pair x y) (now (out .entry)) at (now (out .exit)) r ⌝ }
+// A head, two numbers, and the line's end.
+fn put_pair(out: &mut [u8], head: &[u8], x: u64, y: u64) -> usize
+    requires { ⌜ length (now head) + 42 ≤ length (now out) ⌝ }
+    ensures { λ r. ⌜ Put (length (now (head .entry)) + 42) (now (head .entry) ++ pair x y) (now (out .entry)) 0 (now (out .exit)) r ⌝ }
 {
-    let first = put_number(out, at, x);
-    let gap = add(out, first, b" ");
+    let start = put(out, 0, head);
+    let first = put_number(out, start, x);
+    let gap = put(out, first, b" ");
     let second = put_number(out, gap, y);
-    add(out, second, b"\n")
+    put(out, second, b"\n")
 }
 
 fn spell(out: &mut [u8], a: Answer) -> usize
@@ -62,14 +57,8 @@ fn spell(out: &mut [u8], a: Answer) -> usize
     ensures { λ r. ⌜ Put 50 (lineOf a) (now (out .entry)) 0 (now (out .exit)) r ⌝ }
 {
     match a {
-        Answer::Refused(number, place) => {
-            let n = add(out, 0, b"refused ");
-            put_pair(out, n, number, place)
-        }
-        Answer::Passed(passed, row) => {
-            let n = add(out, 0, b"0 ");
-            put_pair(out, n, passed, row)
-        }
+        Answer::Refused(number, place) => put_pair(out, b"refused ", number, place),
+        Answer::Passed(passed, row) => put_pair(out, b"0 ", passed, row),
     }
 }
 
