@@ -1,5 +1,8 @@
 -- The lines that `portrun` prints, as ASCII bytes: 10 ends a line, 32 is a space, 48 is the digit 0.
 use Prim.Native.Nat.{ℕ, zero, suc, _+_, _/_, _%_, _≤_}
+use Prim.Native.Char.{code}
+use Prim.Native.String as string
+use Prim.Native.String.{String}
 use mathlib.Core.Bool.{Bool, cond}
 use mathlib.Core.List.{List, [], _∷_, _++_}
 use mathlib.Core.Path.{_≡_}
@@ -7,6 +10,11 @@ use lib.Dec.{leb, ltb}
 use lib.ListN.{length, take, drop}
 use Rattle.texts.specs.declared.text.Answer.{Answer}
 use Rattle.texts.specs.declared.text.Answer.the-variants.{Refused, Passed}
+
+-- The bytes of a text, for texts of ASCII characters.
+abbrev pub ascii : String → List ℕ
+ascii string.[] = []
+ascii (string._∷_ c s) = code c ∷ ascii s
 
 -- The decimal digits of a number that has at most k of them. A number of 64 bits has at most 20.
 abbrev pub decimalBy : ℕ → ℕ → List ℕ

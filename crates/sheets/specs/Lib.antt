@@ -1,0 +1,2 @@
+-- What a sheet says.
+pub mod Sheet

@@ -1,0 +1,2 @@
+// The sheet of a table file, as text.
+pub mod sheet;
