@@ -3,7 +3,7 @@ use Prim.Native.Nat.{ℕ, suc, _+_, _*_, _≤_}
 use mathlib.Core.List.{List, [], _∷_}
 use mathlib.Core.Path.{_≡_, refl}
 use native.Mathlib.Omega.{arith}
-use lib.ListN.{length, length-append}
+use lib.ListN.{length, take, length-append}
 use Rattle.table.specs.declared.Class.{Class}
 use Rattle.table.specs.declared.Class.the-variants.{A, B}
 use Rattle.table.specs.declared.Row.{Row}
@@ -16,7 +16,8 @@ use Rattle.tablefile.specs.Reading.{readFile}
 use Rattle.codes.specs.Codes.{fileCheck}
 use Rattle.codes.proofs.Laws.{opened-accepted}
 use Rattle.texts.specs.declared.text.Answer.the-variants.{Refused}
-use Rattle.texts.proofs.Laws.{decimal-short, line-short}
+use Rattle.texts.specs.Text.{usedBy, putAt}
+use Rattle.texts.proofs.Laws.{within, text-put, whole-text, decimal-short, line-short}
 use Rattle.sheets.specs.Sheet.{letterOf, rowLine, rowLines, textBy, sheetText, mostText, FindsRoom}
 
 letter-short : (c : Class) → length (letterOf c) ≤ 1
@@ -42,3 +43,7 @@ finds-room file = by-outcome (fileCheck file) refl
     by-outcome : (o : Outcome) → fileCheck file ≡ o → length (textBy o t) ≤ mostText
     by-outcome accepted e = omega (arith, rows-short t 0 (t .rows), accepted-if t (opened-accepted file e .1) .ranges .most)
     by-outcome (refused number place) e = omega (arith, line-short (Refused number place))
+
+-- So in a buffer of that many bytes those in use are the file's text, whole.
+pub whole-sheet : (file before : List ℕ) {next : ℕ} {after : List ℕ} → mostText ≤ length before → (next ≡ usedBy (sheetText file) 0 before) × (after ≡ putAt (sheetText file) 0 before) → (next ≤ length before) × (take next after ≡ sheetText file)
+whole-sheet file before room p = (within 0 (sheetText file) before (p .0) (omega arith), whole-text (text-put p (omega (arith, finds-room file))))
