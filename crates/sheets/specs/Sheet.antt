@@ -1,7 +1,8 @@
 -- The text that `portsheet` prints for a table file: its sheet, or one line if the file is refused.
-use Prim.Native.Nat.{ℕ, suc, _≤_}
+use Prim.Native.Nat.{ℕ, suc, _≤_, _<_}
 use mathlib.Core.List.{List, [], _∷_, _++_}
-use lib.ListN.{length}
+use mathlib.Core.Path.{_≡_}
+use lib.ListN.{length, take}
 use Rattle.table.specs.declared.Class.{Class}
 use Rattle.table.specs.declared.Class.the-variants.{A, B}
 use Rattle.table.specs.declared.Row.{Row}
@@ -10,6 +11,7 @@ use Rattle.table.specs.Rows.{Contents, contents}
 use Rattle.table.specs.Checks.{Outcome, accepted, refused}
 use Rattle.planner.specs.Bound.{bound}
 use Rattle.tablefile.specs.Reading.{readFile}
+use Rattle.tablefile.specs.Front.{mostFile}
 use Rattle.codes.specs.Codes.{fileCheck}
 use Rattle.texts.specs.declared.text.Answer.the-variants.{Refused}
 use Rattle.texts.specs.Text.{ascii, decimal, lineOf}
@@ -57,3 +59,7 @@ mostText = 4096
 
 abbrev pub FindsRoom : Type 0
 FindsRoom = (file : List ℕ) → length (sheetText file) ≤ mostText
+
+-- Who has read more bytes than a table file has knows the text of the whole, however much follows.
+abbrev pub FrontDecides : Type 0
+FrontDecides = (k : ℕ) (input : List ℕ) → mostFile < k → sheetText (take k input) ≡ sheetText input

@@ -1,4 +1,4 @@
--- Laws that belong to no one function. `BothWays` and `SameAnswers` have the theorems; `Laws` is what the crates above may cite.
+-- Laws that belong to no one function. `BothWays`, `SameAnswers` and `Front` have the theorems; `Laws` is what the crates above may cite.
 mod Sizes
 mod Rows
 mod FieldTrip
@@ -9,4 +9,5 @@ mod HeaderTrip
 pub mod BothWays
 pub mod SameAnswers
 mod Filled
+pub mod Front
 pub mod Laws
