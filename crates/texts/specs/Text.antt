@@ -1,4 +1,4 @@
--- The lines that `portrun` prints, as ASCII bytes: 10 ends a line, 32 is a space, 48 is the digit 0.
+-- The texts that the programs print, as ASCII bytes: 48 is the digit 0.
 use Prim.Native.Nat.{ℕ, zero, suc, _+_, _/_, _%_, _≤_}
 use Prim.Native.Char.{code}
 use Prim.Native.String as string
@@ -25,12 +25,12 @@ unfoldable pub decimal : ℕ → List ℕ
 decimal n = decimalBy 20 n
 
 abbrev pub pair : ℕ → ℕ → List ℕ
-pair x y = decimal x ++ (32 ∷ []) ++ decimal y ++ (10 ∷ [])
+pair x y = decimal x ++ ascii " " ++ decimal y ++ ascii "\n"
 
 -- `refused`, number, place; or `0`, byte-times passed, ended frame's row.
 abbrev pub lineOf : Answer → List ℕ
-lineOf (Refused number place) = (114 ∷ 101 ∷ 102 ∷ 117 ∷ 115 ∷ 101 ∷ 100 ∷ 32 ∷ []) ++ pair number place
-lineOf (Passed passed row) = (48 ∷ 32 ∷ []) ++ pair passed row
+lineOf (Refused number place) = ascii "refused " ++ pair number place
+lineOf (Passed passed row) = ascii "0 " ++ pair passed row
 
 -- A text behind the first `at` bytes of a buffer, all its other bytes as they were; where it finds no room the buffer stays as it is. And how many bytes are in use then.
 abbrev pub hasRoom : List ℕ → ℕ → List ℕ → Bool
