@@ -1,5 +1,5 @@
 -- The lines of a sheet, piece by piece.
-use Prim.Native.Nat.{ℕ, _≤_}
+use Prim.Native.Nat.{ℕ}
 use mathlib.Core.List.{List, [], _∷_, _++_, append-assoc}
 use mathlib.Core.Path.{_≡_, refl}
 use Rattle.table.specs.declared.Row.{Row}

@@ -23,7 +23,7 @@ abbrev pub letterOf : Class → List ℕ
 letterOf A = ascii "A"
 letterOf B = ascii "B"
 
--- A row's line: its number and its class letter; after that bytes on the wire, then three byte-time counts; single spaces between.
+-- A row's line: its number and class letter; after them bytes on the wire, then three byte-time counts, period, deadline and the bound that is handed in; single spaces between.
 unfoldable pub rowLine : ℕ → Row → ℕ → List ℕ
 rowLine number r limit =
     decimal number
@@ -53,7 +53,7 @@ textBy (refused number place) t = lineOf (Refused number place)
 unfoldable pub sheetText : List ℕ → List ℕ
 sheetText file = textBy (fileCheck file) (contents (readFile file .table))
 
--- No file's text is longer than this.
+-- The program's buffer has 4,096 bytes, and no file's text is longer.
 abbrev pub mostText : ℕ
 mostText = 4096
 

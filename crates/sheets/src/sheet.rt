@@ -25,6 +25,9 @@ use texts::text::put;
 use texts::text::put_answer;
 use texts::text::put_number;
 
+// No file's text is longer than this.
+const MOST_TEXT: usize = 4096;
+
 // A row's number, a space and its class letter.
 fn put_name(out: &mut [u8], at: usize, number: u64, class: Class) -> usize
     requires { ⌜ at + 22 ≤ length (now out) ⌝ }
@@ -111,7 +114,7 @@ fn put_text(out: &mut [u8], answer: Reading, t: Table, sheet: Sheet) -> usize
     }
 }
 
-// The text of a table file's sheet, put at the front of a buffer as a text is.
+// The text of a table file's sheet, or of its refusal, put at the front of a buffer as a text is. Bounds are asked for with the rows lent.
 pub fn put_sheet(out: &mut [u8], file: &[u8]) -> usize
     ensures { λ r. ⌜ r ≡ usedBy (sheetText (now (file .entry))) 0 (now (out .entry)) ⌝ }
     ensures { λ _. ⌜ now (out .exit) ≡ putAt (sheetText (now (file .entry))) 0 (now (out .entry)) ⌝ }
@@ -119,7 +122,7 @@ pub fn put_sheet(out: &mut [u8], file: &[u8]) -> usize
     let l = tableread::read::read(file);
     let answer = l.answer;
     let t = l.table;
-    let mut text = [0u8; 4096];
+    let mut text = [0u8; MOST_TEXT];
     let n = put_text(&mut text, answer, t, of_table(t));
     put(out, 0, &text[..n])
 }

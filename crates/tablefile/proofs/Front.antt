@@ -9,11 +9,10 @@ use lib.ListN.{length, getD, take, drop, length-drop}
 use lib.Seq.{length-take-le, take-all, getD-take, getD-drop}
 use borrow.Author.Tests.{leb-true, leb-false, le-leb, lt-leb}
 use Rattle.table.specs.declared.Row.{Row}
-use Rattle.table.specs.Limits.{mostRows}
 use Rattle.table.specs.Checks.{Outcome, accepted, refused, first}
 use Rattle.table.proofs.Laws as law
 use Rattle.tablefile.specs.Layout.{headerSize, idleaPlace, idlebPlace, bestPlace, countPlace, valueAt, Field, Payload, Period, Deadline, widthOf, bitOf, classOf, sizeIn, placeOf, rowSize}
-use Rattle.tablefile.specs.Reading.{opens, header, rowCount, mapOf, withField, rowFrom, fieldChecks, row, behindRow, rowsChecks, rowsEnd, fileEnd, fileChecks, tableBy, readFile}
+use Rattle.tablefile.specs.Reading.{opens, header, rowCount, mapOf, withField, rowFrom, row, behindRow, rowsChecks, rowsEnd, fileEnd, fileChecks, readFile}
 use Rattle.tablefile.specs.Front.{mostRow, mostFile, FrontReads}
 use Rattle.tablefile.proofs.HeaderTrip.{header-if}
 

@@ -116,7 +116,7 @@ spelt (suc f) (suc k) n h g l =
 least : (n k : ℕ) → 0 < k → Fewest 10 1 n (suc k) → 10 ^ k ≤ n
 least n k g f = let z : suc k - 1 ≡ k = omega arith in rw z at (f .2 (omega arith))
 
-pub digits-few : (n k : ℕ) → n < 2 ^ 64 → Fewest 10 1 n k → k ≤ 20
+digits-few : (n k : ℕ) → n < 2 ^ 64 → Fewest 10 1 n k → k ≤ 20
 digits-few n zero h f = zero-le
 digits-few n (suc k) h f = lt-of-not-le (λ g. let p : 10 ^ 20 ≤ 10 ^ k = pow-le-pow-right (omega arith) g in omega (arith, least n k (omega arith) f))
 
