@@ -27,7 +27,7 @@ pub row-text : (number : ℕ) (r : Row) (limit : ℕ) {size period : ℕ} → si
 unfolding rowLine
 row-text number r limit es ep = rw (es, ep) (regroup (decimal number) (ascii " ") (letterOf (r .class)) (decimal (sizeOf r)) (decimal (periodOf r)) (decimal (r .deadline)) (decimal limit) (ascii "\n"))
 
--- What is put by the answers of reading and of opening is the text of the file.
-pub of-file : (file : List ℕ) (l : Loaded) → Reads file l → (v : Verdict) → tables.outcomeOf v ≡ opening (contents (l .table)) → textBy (tables.first (files.outcomeOf (l .answer) ∷ tables.outcomeOf v ∷ [])) (contents (l .table)) ≡ sheetText file
+-- The text of a file, by the answers of reading and of opening.
+pub of-file : (file : List ℕ) (l : Loaded) → Reads file l → (v : Verdict) → tables.outcomeOf v ≡ opening (contents (l .table)) → sheetText file ≡ textBy (tables.first (files.outcomeOf (l .answer) ∷ tables.outcomeOf v ∷ [])) (contents (l .table))
 unfolding sheetText
 of-file file l read v e = rw (checked file l read v e, read .table) refl

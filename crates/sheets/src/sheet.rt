@@ -1,14 +1,12 @@
 // The sheet of a table file, put into a buffer.
-ghost use mathlib.Core.List.{[], _∷_, _++_};
+ghost use mathlib.Core.List.{_++_};
 ghost use mathlib.Core.Path.{_≡_};
 ghost use Prim.Native.Nat.{_+_, _≤_};
 ghost use lib.ListN.{length};
 ghost use Rattle.table.specs.Rows.{contents};
-ghost use Rattle.table.specs.Checks as tables;
 ghost use Rattle.table.specs.Checks.{accepted};
 ghost use Rattle.planner.specs.Opening.{opening};
 ghost use Rattle.planner.specs.Plan.{Shown};
-ghost use Rattle.tablefile.specs.Reading as files;
 ghost use Rattle.texts.specs.Text.{ascii, decimal, lineOf, usedBy, putAt, Put};
 ghost use Rattle.sheets.specs.Sheet.{letterOf, rowLine, textBy, sheetText, mostText};
 use lent_rows::rows::of_table;
@@ -90,12 +88,15 @@ fn put_refusal(out: &mut [u8], number: u64, place: u64) -> usize
     put_answer(out, 0, Answer::Refused(number, place))
 }
 
-// Reading's refusal, or else opening's, or else the sheet.
-fn put_text(out: &mut [u8], answer: Reading, t: Table, sheet: Sheet) -> usize
+// A file's text: reading's refusal, or else opening's, or else the sheet. Bounds are asked for with the rows lent.
+fn put_text(out: &mut [u8], file: &[u8]) -> usize
     requires { ⌜ mostText ≤ length (now out) ⌝ }
-    requires { ⌜ Shown (contents t) sheet ⌝ }
-    ensures { λ r. ⌜ Put mostText (textBy (tables.first (files.outcomeOf answer ∷ tables.outcomeOf (sheet .verdict) ∷ [])) (contents t)) (now (out .entry)) 0 (now (out .exit)) r ⌝ }
+    ensures { λ r. ⌜ Put mostText (sheetText (now (file .entry))) (now (out .entry)) 0 (now (out .exit)) r ⌝ }
 {
+    let l = tableread::read::read(file);
+    let t = l.table;
+    let sheet = of_table(t);
+    let answer = l.answer;
     let verdict = sheet.verdict;
     match answer {
         Reading::Refused(fault, place) => put_refusal(
@@ -114,15 +115,12 @@ fn put_text(out: &mut [u8], answer: Reading, t: Table, sheet: Sheet) -> usize
     }
 }
 
-// The text of a table file's sheet, or of its refusal, put at the front of a buffer as a text is. Bounds are asked for with the rows lent.
+// The text of a table file's sheet, or of its refusal, put at the front of a buffer as a text is.
 pub fn put_sheet(out: &mut [u8], file: &[u8]) -> usize
     ensures { λ r. ⌜ r ≡ usedBy (sheetText (now (file .entry))) 0 (now (out .entry)) ⌝ }
     ensures { λ _. ⌜ now (out .exit) ≡ putAt (sheetText (now (file .entry))) 0 (now (out .entry)) ⌝ }
 {
-    let l = tableread::read::read(file);
-    let answer = l.answer;
-    let t = l.table;
     let mut text = [0u8; MOST_TEXT];
-    let n = put_text(&mut text, answer, t, of_table(t));
+    let n = put_text(&mut text, file);
     put(out, 0, &text[..n])
 }
