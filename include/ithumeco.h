@@ -1,11 +1,13 @@
 /*
- * Table files, ports and their records on byte buffers. docs/ENCODING.md says
- * what the bytes mean.
+ * Table files, ports and their records on byte buffers: the static library
+ * libithumeco.a. docs/ENCODING.md says what the bytes mean, and docs/GUIDE.md
+ * what each refusal says.
  *
- * Every buffer is a pointer and a length, of any length. No pointer is NULL,
- * not even that of an empty buffer, and the buffers of one call do not overlap.
- * Where a function returns anything but 0 nothing is written; otherwise bytes
- * behind what is written keep their values.
+ * Every buffer is a pointer and a length, of any length, and the buffers of one
+ * call do not overlap. Where a function returns anything but 0 nothing is
+ * written; otherwise bytes behind what is written keep their values. A function
+ * keeps nothing between calls, so it may be called from several threads at a
+ * time, on different buffers.
  */
 #ifndef ITHUMECO_H
 #define ITHUMECO_H
@@ -13,19 +15,81 @@
 #include <stddef.h>
 #include <stdint.h>
 
+/* The version of the bytes that this header speaks of: a record's first word. A
+ * record of another version is answered ITHUMECO_BROKEN and never misread. */
+#define ITHUMECO_VERSION 1000001
+
 /* Sizes in bytes. */
 #define ITHUMECO_CALL_SIZE 24
 #define ITHUMECO_ANSWER_SIZE 40
-#define ITHUMECO_RECORD_SIZE 3576
+#define ITHUMECO_RECORD_SIZE 3584
 #define ITHUMECO_BOUNDS_SIZE 256
+
+/* The largest table file, in bytes. */
+#define ITHUMECO_MOST_FILE 367
+
+/* The most byte-times of one advance, and the clock's last value. */
+#define ITHUMECO_MOST_ADVANCE 65535
+#define ITHUMECO_LAST_CLOCK UINT64_C(1099511627775)
+
+/* The kinds of calls: a call's first word. */
+#define ITHUMECO_OFFER 0      /* then row, payload */
+#define ITHUMECO_OFFER_BEST 1 /* then payload, 0 */
+#define ITHUMECO_ADVANCE 2    /* then n, 0 */
+
+/* In place of a frame's row. */
+#define ITHUMECO_BEST_EFFORT 32
+#define ITHUMECO_NO_FRAME 33
 
 /* A function returns 0, or a refusal's number + 256 * its place. */
 #define ITHUMECO_NUMBER(code) ((code) % 256)
 #define ITHUMECO_PLACE(code) ((code) / 256)
 
+/* The numbers of the refusals. A table file: */
+#define ITHUMECO_FILE_ENDS 1
+#define ITHUMECO_LETTERS 2
+#define ITHUMECO_ROW_COUNT 3
+#define ITHUMECO_MAP_BIT 4
+#define ITHUMECO_VALUE 5
+#define ITHUMECO_STATES_DEFAULT 6
+#define ITHUMECO_TRAILING 7
+/* a table: */
+#define ITHUMECO_SLOPES 8
+#define ITHUMECO_SHARES 9
+#define ITHUMECO_DEADLINE 10
+/* a call on a port, in an answer's first word: */
+#define ITHUMECO_NO_SUCH_ROW 11
+#define ITHUMECO_PAYLOAD 12
+#define ITHUMECO_EARLY 13
+#define ITHUMECO_BEST_EFFORT_FULL 14
+#define ITHUMECO_TOO_FAR 15
+#define ITHUMECO_PAST_LAST_CLOCK 16
+#define ITHUMECO_BROKEN 18
+/* and a buffer: */
+#define ITHUMECO_SHORTER_THAN_FILE 17
+#define ITHUMECO_NOT_WHOLE_CALLS 101
+#define ITHUMECO_UNREADABLE_CALL 102
+#define ITHUMECO_TOO_SHORT 103
+
 #ifdef __cplusplus
 extern "C" {
 #endif
+
+/* Puts a word at its place: bytes 8 * k to 8 * k + 7, the lowest first. */
+static inline void ithumeco_put_word(uint8_t *bytes, size_t k, uint64_t word)
+{
+    for (int i = 0; i < 8; i++)
+        bytes[8 * k + (size_t)i] = (uint8_t)(word >> (8 * i));
+}
+
+/* The word at a place. */
+static inline uint64_t ithumeco_get_word(const uint8_t *bytes, size_t k)
+{
+    uint64_t word = 0;
+    for (int i = 7; i >= 0; i--)
+        word = word << 8 | bytes[8 * k + (size_t)i];
+    return word;
+}
 
 /* Makes a list of calls on the fresh port of a table file, an answer for each. */
 uint64_t ithumeco_replay(const uint8_t *file, size_t file_size,
@@ -36,7 +100,8 @@ uint64_t ithumeco_replay(const uint8_t *file, size_t file_size,
 uint64_t ithumeco_open(const uint8_t *file, size_t file_size,
                        uint8_t *record, size_t record_size);
 
-/* Makes one call on a record. The answer to bytes that are no record is 18. */
+/* Makes one call on a record. Bytes that are no record, also too few of them,
+ * answer ITHUMECO_BROKEN. */
 uint64_t ithumeco_call(uint8_t *record, size_t record_size,
                        const uint8_t *call, size_t call_size,
                        uint8_t *answer, size_t answer_size);

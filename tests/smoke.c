@@ -1,4 +1,4 @@
-/* Calls each function of include/ithumeco.h on the specimen, and holds what it gives to document 01's numbers. */
+/* Calls each function of include/ithumeco.h on the specimen, holds what it gives to document 01's numbers, and holds the header's names to the library. */
 #include <stdio.h>
 #include <string.h>
 #include "ithumeco.h"
@@ -15,59 +15,123 @@ static void expect(const char *what, uint64_t is, uint64_t should)
     }
 }
 
-static void put_word(uint8_t *out, uint64_t word)
+static uint8_t file[512], copy[512], record[ITHUMECO_RECORD_SIZE], answer[ITHUMECO_ANSWER_SIZE], call[ITHUMECO_CALL_SIZE];
+static size_t size;
+
+/* The number that a call on the record is answered with. */
+static uint64_t made(uint64_t kind, uint64_t x, uint64_t y)
 {
-    for (int i = 0; i < 8; i++)
-        out[i] = (uint8_t)(word >> (8 * i));
+    ithumeco_put_word(call, 0, kind);
+    ithumeco_put_word(call, 1, x);
+    ithumeco_put_word(call, 2, y);
+    expect("call", ithumeco_call(record, sizeof record, call, sizeof call, answer, sizeof answer), 0);
+    return ithumeco_get_word(answer, 0);
 }
 
-static uint64_t word(const uint8_t *in, int k)
+static void files(void)
 {
-    uint64_t w = 0;
-    for (int i = 7; i >= 0; i--)
-        w = w << 8 | in[8 * k + i];
-    return w;
+    static uint8_t bounds[ITHUMECO_BOUNDS_SIZE];
+    expect("rewrite", ithumeco_rewrite(file, size, copy, size), 0);
+    expect("the copy differs", memcmp(file, copy, size) != 0, 0);
+    expect("rewrite, too short", ithumeco_rewrite(file, size, copy, size - 1), ITHUMECO_SHORTER_THAN_FILE);
+    expect("bounds", ithumeco_bounds(file, size, bounds, sizeof bounds), 0);
+    expect("bound of row 0", ithumeco_get_word(bounds, 0), 3742);
+    expect("bound of row 1", ithumeco_get_word(bounds, 1), 3142);
+    expect("bound of row 2", ithumeco_get_word(bounds, 2), 4856);
+    expect("no row 3", ithumeco_get_word(bounds, 3), 0);
+    expect("bounds, too short", ithumeco_bounds(file, size, bounds, sizeof bounds - 1), ITHUMECO_TOO_SHORT);
+    expect("a file that ends", ITHUMECO_NUMBER(ithumeco_bounds(file, size - 1, bounds, sizeof bounds)), ITHUMECO_FILE_ENDS);
+    expect("its place", ITHUMECO_PLACE(ithumeco_bounds(file, size - 1, bounds, sizeof bounds)), 26);
+}
+
+/* 32 rows that state every field: no file is larger. */
+static void largest_file(void)
+{
+    static const uint8_t row[] = {7, 0, 43, 0, 1, 0, 0, 0, 0, 255, 255};
+    static uint8_t large[ITHUMECO_MOST_FILE], again[ITHUMECO_MOST_FILE];
+    memcpy(large, file, 15);
+    large[14] = 32;
+    for (size_t i = 0; i < 32; i++)
+        memcpy(large + 15 + i * sizeof row, row, sizeof row);
+    expect("the largest file", ithumeco_rewrite(large, sizeof large, again, sizeof again), 0);
+    expect("its copy differs", memcmp(large, again, sizeof large) != 0, 0);
+}
+
+/* A frame of 58 bytes to row 0, and an advance until it has ended: in a list, and one by one. */
+static void runs(void)
+{
+    static const uint64_t list[CALLS][3] = {{ITHUMECO_OFFER, 0, 58}, {ITHUMECO_ADVANCE, 5000, 0}};
+    static uint8_t calls[CALLS * ITHUMECO_CALL_SIZE], answers[CALLS * ITHUMECO_ANSWER_SIZE];
+    for (size_t i = 0; i < CALLS; i++)
+        for (size_t k = 0; k < 3; k++)
+            ithumeco_put_word(calls, 3 * i + k, list[i][k]);
+    expect("replay", ithumeco_replay(file, size, calls, sizeof calls, answers, sizeof answers), 0);
+    expect("taken", ithumeco_get_word(answers, 2), ITHUMECO_NO_FRAME);
+    expect("ended after", ithumeco_get_word(answers, 6), 100);
+    expect("row that ended", ithumeco_get_word(answers, 7), 0);
+    expect("replay, too short", ithumeco_replay(file, size, calls, sizeof calls, answers, sizeof answers - 1), ITHUMECO_TOO_SHORT);
+    expect("replay, not whole", ithumeco_replay(file, size, calls, 23, answers, sizeof answers), ITHUMECO_NOT_WHOLE_CALLS);
+
+    expect("open", ithumeco_open(file, size, record, sizeof record), 0);
+    expect("version", ithumeco_get_word(record, 0), ITHUMECO_VERSION);
+    for (size_t i = 0; i < CALLS; i++) {
+        expect("one by one", made(list[i][0], list[i][1], list[i][2]), 0);
+        expect("the answer differs", memcmp(answer, answers + i * ITHUMECO_ANSWER_SIZE, sizeof answer) != 0, 0);
+    }
+    expect("clock", ithumeco_get_word(record, 133), 100);
+    expect("open, too short", ithumeco_open(file, size, record, sizeof record - 1), ITHUMECO_TOO_SHORT);
+}
+
+static void refusals(void)
+{
+    expect("open", ithumeco_open(file, size, record, sizeof record), 0);
+    expect("best effort", made(ITHUMECO_OFFER_BEST, 1500, 0), 0);
+    expect("its end", made(ITHUMECO_ADVANCE, ITHUMECO_MOST_ADVANCE, 0), 0);
+    expect("its mark", ithumeco_get_word(answer, 2), ITHUMECO_BEST_EFFORT);
+    expect("no such row", made(ITHUMECO_OFFER, 3, 0), ITHUMECO_NO_SUCH_ROW);
+    expect("payload", made(ITHUMECO_OFFER, 0, 59), ITHUMECO_PAYLOAD);
+    expect("in time", made(ITHUMECO_OFFER, 0, 58), 0);
+    expect("early", made(ITHUMECO_OFFER, 0, 58), ITHUMECO_EARLY);
+    for (int i = 0; i < 16; i++)
+        expect("there is room", made(ITHUMECO_OFFER_BEST, 0, 0), 0);
+    expect("full", made(ITHUMECO_OFFER_BEST, 0, 0), ITHUMECO_BEST_EFFORT_FULL);
+    expect("too far", made(ITHUMECO_ADVANCE, ITHUMECO_MOST_ADVANCE + 1, 0), ITHUMECO_TOO_FAR);
+    expect("a call that names none", ithumeco_call(record, sizeof record, call, sizeof call - 1, answer, sizeof answer), ITHUMECO_UNREADABLE_CALL);
+
+    expect("open", ithumeco_open(file, size, record, sizeof record), 0);
+    ithumeco_put_word(record, 133, ITHUMECO_LAST_CLOCK);
+    expect("the clock's last value", made(ITHUMECO_ADVANCE, 0, 0), 0);
+    expect("past it", made(ITHUMECO_ADVANCE, 1, 0), ITHUMECO_PAST_LAST_CLOCK);
+    ithumeco_put_word(record, 0, ITHUMECO_VERSION + 1);
+    expect("another version", made(ITHUMECO_ADVANCE, 0, 0), ITHUMECO_BROKEN);
+}
+
+/* NULL where there are no bytes: not promised, but so it is. */
+static void nothing(void)
+{
+    expect("no calls", ithumeco_replay(file, size, NULL, 0, NULL, 0), 0);
+    expect("no file", ithumeco_open(NULL, 0, record, sizeof record), ITHUMECO_FILE_ENDS);
+    expect("no record", ithumeco_open(file, size, NULL, 0), ITHUMECO_TOO_SHORT);
+    expect("no call", ithumeco_call(record, sizeof record, NULL, 0, answer, sizeof answer), ITHUMECO_UNREADABLE_CALL);
+    expect("a call on nothing", ithumeco_call(NULL, 0, call, sizeof call, answer, sizeof answer), 0);
+    expect("is broken", ithumeco_get_word(answer, 0), ITHUMECO_BROKEN);
+    expect("no answer", ithumeco_call(record, sizeof record, call, sizeof call, NULL, 0), ITHUMECO_TOO_SHORT);
+    expect("no bounds", ithumeco_bounds(file, size, NULL, 0), ITHUMECO_TOO_SHORT);
+    expect("no copy", ithumeco_rewrite(file, size, NULL, 0), ITHUMECO_SHORTER_THAN_FILE);
+    expect("nothing at all", ithumeco_rewrite(NULL, 0, NULL, 0), ITHUMECO_FILE_ENDS);
 }
 
 int main(void)
 {
-    /* a frame of 58 bytes to row 0, and an advance until it has ended */
-    static const uint64_t list[CALLS][3] = {{0, 0, 58}, {2, 5000, 0}};
-    static uint8_t file[512], copy[512], bounds[ITHUMECO_BOUNDS_SIZE], record[ITHUMECO_RECORD_SIZE];
-    static uint8_t calls[CALLS * ITHUMECO_CALL_SIZE], answers[CALLS * ITHUMECO_ANSWER_SIZE], answer[ITHUMECO_ANSWER_SIZE];
-
     FILE *in = fopen("tables/specimen.avb", "rb");
     if (in == NULL)
         return 1;
-    size_t size = fread(file, 1, sizeof file, in);
+    size = fread(file, 1, sizeof file, in);
     fclose(in);
-
-    expect("rewrite", ithumeco_rewrite(file, size, copy, size), 0);
-    expect("the copy differs", memcmp(file, copy, size) != 0, 0);
-    expect("rewrite, too short", ithumeco_rewrite(file, size, copy, size - 1), 17);
-
-    expect("bounds", ithumeco_bounds(file, size, bounds, sizeof bounds), 0);
-    expect("bound of row 0", word(bounds, 0), 3742);
-    expect("bound of row 1", word(bounds, 1), 3142);
-    expect("bound of row 2", word(bounds, 2), 4856);
-    expect("no row 3", word(bounds, 3), 0);
-
-    for (int i = 0; i < CALLS; i++)
-        for (int k = 0; k < 3; k++)
-            put_word(calls + i * ITHUMECO_CALL_SIZE + 8 * k, list[i][k]);
-    expect("replay", ithumeco_replay(file, size, calls, sizeof calls, answers, sizeof answers), 0);
-    expect("ended after", word(answers, 6), 100);
-    expect("row that ended", word(answers, 7), 0);
-
-    expect("open", ithumeco_open(file, size, record, sizeof record), 0);
-    for (int i = 0; i < CALLS; i++) {
-        const uint8_t *call = calls + i * ITHUMECO_CALL_SIZE;
-        expect("call", ithumeco_call(record, sizeof record, call, ITHUMECO_CALL_SIZE, answer, sizeof answer), 0);
-        expect("the answer differs", memcmp(answer, answers + i * ITHUMECO_ANSWER_SIZE, sizeof answer) != 0, 0);
-    }
-    expect("clock", word(record, 132), 100);
-
-    expect("number", ITHUMECO_NUMBER(ithumeco_open(file, 4, record, sizeof record)), 1);
-    expect("place", ITHUMECO_PLACE(ithumeco_bounds(file, size - 1, bounds, sizeof bounds)), 26);
+    files();
+    largest_file();
+    runs();
+    refusals();
+    nothing();
     return failures != 0;
 }

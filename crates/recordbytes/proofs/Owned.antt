@@ -2,7 +2,7 @@
 use mathlib.Core.Bool.{Bool, true, false, cond}
 use mathlib.Core.List.{List, [], _∷_, map}
 use native.Mathlib.Omega.{arith}
-use lib.ListN.{length, take, replicate}
+use lib.ListN.{length, take}
 use mir.Val.{Val}
 use base.Fml.{Fml}
 use denote.Shadow.{shadow}
@@ -25,7 +25,7 @@ use Rattle.machine.proofs.Wire as wire
 use Rattle.machine.proofs.Last as last
 use Rattle.machine.proofs.Port as port
 use Rattle.words.specs.Words.{Every, Word}
-use Rattle.recordbytes.specs.Fits.{HeaderFits, RowFits, FrameFits, InstantFits, WireFits, Numbered}
+use Rattle.recordbytes.specs.Fits.{RowFits, FrameFits, InstantFits, WireFits, Numbered}
 use Rattle.recordbytes.proofs.Lists.{every-append, every-take, every-same, every-map}
 
 row-owned : (r : Row) (vs : List Val) → Is (struct.row row.the-type) r vs → RowFits r

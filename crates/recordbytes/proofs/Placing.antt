@@ -2,17 +2,14 @@
 use Prim.Native.Nat.{ℕ, zero, suc, _+_, _-_, _≤_, _<_}
 use mathlib.Core.List.{List, [], _∷_, _++_, map, append-assoc, append-nil}
 use mathlib.Core.Path.{_≡_, refl, sym, _∙_, ap}
-use native.Mathlib.Numerals.{add-one}
 use native.Mathlib.Omega.{arith}
 use lib.ListN.{length, take, set, replicate, length-append, length-take, length-map, length-replicate}
 use lib.Seq.{take-append-seam, take-append-add, take-take, take-all}
-use Rattle.table.specs.declared.Row.{Row}
 use Rattle.table.specs.Limits.{mostRows}
 use Rattle.table.specs.Rows.{noRow, Contents, rowsOf, contents}
 use Rattle.machine.specs.declared.Frame.{Frame}
-use Rattle.machine.specs.declared.Last.{Last}
 use Rattle.machine.specs.Limits.{classPlaces, bestPlaces}
-use Rattle.machine.specs.State.{Instant, never, at, noFrame, zeroFrame, zeroLast, waiting, instantOf, instantsOf, State, view}
+use Rattle.machine.specs.State.{Instant, never, at, zeroFrame, zeroLast, waiting, instantOf, instantsOf, State, view}
 use Rattle.recordbytes.specs.Port.{placed, tableFrom, lastOf, portFrom}
 use Rattle.recordbytes.specs.Fits.{Placed}
 

@@ -1,8 +1,8 @@
 -- A port's parts stand in bytes, each at its place: so they do in what is written, and then they are what is read.
 use Prim.Native.Nat.{ℕ, _+_, _*_, _≤_}
-use mathlib.Core.Bool.{true, _&&_}
+use mathlib.Core.Bool.{true}
 use mathlib.Core.List.{List, [], _∷_}
-use mathlib.Core.Path.{_≡_, refl, sym, _∙_, ap}
+use mathlib.Core.Path.{_≡_, refl, sym, _∙_}
 use native.Mathlib.Omega.{arith}
 use lib.Dec.{leb, eqb}
 use lib.ListN.{length, take}
@@ -18,8 +18,8 @@ use Rattle.machine.specs.State.{Instant, never, at, State}
 use Rattle.words.specs.Words.{Every, Word, Bytes, wordAt, stored, spread}
 use Rattle.words.proofs.Laws.{stored-length, Held, held-stored, held-same, word-small, Agree, agree-more, stored-agrees, held-agrees, spread-length, spread-agrees, HeldEach, each-agrees, spread-held, each-same, gathered-back, gathered-length, gathered-every}
 use Rattle.recordbytes.specs.Layout.{version, headStart, countPlace, rowsStart, clockStart, queueaStart, queuebStart, bestStart, lastStart, wireStart, rowWidth, frameWidth, lastWidth, recordSize}
-use Rattle.recordbytes.specs.Record.{headWords, rowWords, numberWords, frameWords, lastWords, wireWords, tableOver, queueOver, recordOver, u16Of, u32Of, rowAt, frameAt, instantAt, queueAt, stateOf, fitsU16, fitsU32, headFits, rowFits, frameFits, lastFits, each, queueFits, recordTests, isRecord}
-use Rattle.recordbytes.specs.Fits.{HeaderFits, RowFits, FrameFits, InstantFits, WireFits, Placed, Numbered, Fits}
+use Rattle.recordbytes.specs.Record.{headWords, rowWords, numberWords, frameWords, lastWords, wireWords, tableOver, queueOver, recordOver, rowAt, frameAt, instantAt, queueAt, stateOf, headFits, rowFits, frameFits, lastFits, each, queueFits, recordTests, isRecord}
+use Rattle.recordbytes.specs.Fits.{RowFits, FrameFits, InstantFits, Placed, Numbered, Fits}
 use Rattle.recordbytes.proofs.Lists.{true-each, both, held-each, each-held}
 use Rattle.recordbytes.proofs.Tested.{tests, head}
 use Rattle.recordbytes.proofs.Fields as field

@@ -8,11 +8,11 @@ use Rattle.table.specs.Limits.{mostRows}
 use Rattle.machine.specs.declared.Frame.{Frame}
 use Rattle.machine.specs.Limits.{classPlaces, bestPlaces}
 use Rattle.machine.specs.State.{State}
-use Rattle.words.specs.Words.{stored, spread}
+use Rattle.words.specs.Words.{stored}
 use Rattle.words.proofs.Laws.{stored-length, spread-length, stored-behind, spread-behind}
 use Rattle.recordbytes.specs.Layout.{headStart, rowsStart, clockStart, queueaStart, queuebStart, bestStart, lastStart, wireStart, rowWidth, frameWidth, lastWidth, recordSize}
 use Rattle.recordbytes.specs.Record.{headWords, rowWords, numberWords, frameWords, lastWords, wireWords, tableOver, queueOver, recordOver}
-use Rattle.recordbytes.specs.RoundTrip.{ReadingWritten, WritingRead, ReadFits, Kept, BehindKept, SameParts}
+use Rattle.recordbytes.specs.RoundTrip.{ReadingWritten, WritingRead, ReadFits, BehindKept, SameParts}
 use Rattle.recordbytes.proofs.Stands.{last-wide, wire-wide, queue-length, written-stands, stands-read, stands-record, stands-again, named-stands, named-numbered}
 use Rattle.recordbytes.proofs.Tested.{long, named-placed}
 use Rattle.recordbytes.proofs.Placing.{view-back}

@@ -1,6 +1,6 @@
 -- The record of a port by its parts, with zeros in the places that belong to none; and the one that bytes are read as.
 use Prim.Native.Nat.{ℕ}
-use mathlib.Core.Bool.{Bool, true, cond}
+use mathlib.Core.Bool.{true, cond}
 use mathlib.Core.List.{List, [], _++_, map}
 use lib.IntN.{pos}
 use lib.ListN.{length, take, replicate}

@@ -1,18 +1,16 @@
 -- The parts of a port from the words that name them.
-use Prim.Native.Nat.{ℕ, _+_, _*_, _≤_, _<_}
-use mathlib.Core.Bool.{Bool, true, false, cond}
-use mathlib.Core.List.{List, [], _∷_, _++_, map}
-use mathlib.Core.Path.{_≡_, refl, sym, _∙_, ap}
+use Prim.Native.Nat.{ℕ, _+_, _*_, _<_}
+use mathlib.Core.Bool.{true, false}
+use mathlib.Core.List.{List, map}
+use mathlib.Core.Path.{_≡_, refl, _∙_, ap}
 use native.Mathlib.Omega.{arith}
 use lib.IntN.{ℤ, pos}
 use lib.ListN.{length, set, replicate}
 use borrow.Author.Tests.{eq-eqb, ne-eqb}
 use Rattle.table.specs.declared.Row.{Row}
-use Rattle.table.specs.declared.Header.{Header}
 use Rattle.table.specs.declared.Table.{Table}
 use Rattle.table.specs.Limits.{mostRows}
 use Rattle.table.specs.Rows.{noRow}
-use Rattle.machine.specs.declared.Frame.{Frame}
 use Rattle.machine.specs.declared.Wire.{Wire}
 use Rattle.machine.specs.declared.Wire.the-variants.{Free, Sending}
 use Rattle.machine.specs.declared.Queue.{Queue}
@@ -24,7 +22,7 @@ use Rattle.machine.specs.State.{zeroFrame, zeroLast}
 use Rattle.words.specs.Words.{wordAt, gathered}
 use Rattle.words.proofs.Laws.{gathered-length, gathered-none, gathered-next, gathered-map}
 use Rattle.recordbytes.specs.declared.Reading.{Reading}
-use Rattle.recordbytes.specs.Layout.{countPlace, rowsStart, clockStart, queueaStart, queuebStart, bestStart, lastStart, wireStart, rowWidth, frameWidth, lastWidth}
+use Rattle.recordbytes.specs.Layout.{countPlace, rowsStart, clockStart, queueaStart, queuebStart, bestStart, lastStart, wireStart, rowWidth, lastWidth}
 use Rattle.recordbytes.specs.Record.{u16Of, u32Of, signedOf, rowAt, frameAt, instantAt, queueAt, wireAt, stateOf, isRecord}
 use Rattle.recordbytes.specs.Port.{placed, tableFrom, lastOf, portFrom, nothing, readRecord}
 use Rattle.recordbytes.proofs.Laws.{placed-none, placed-next}

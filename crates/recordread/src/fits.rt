@@ -1,7 +1,6 @@
 // Whether bytes are a record: every word of a part fits its field. Words that belong to no part are not looked at.
 ghost use mathlib.Core.Path.{_≡_};
 ghost use Prim.Native.Nat.{_+_, _*_, _≤_};
-ghost use lib.ListN.{length};
 ghost use Rattle.table.specs.Limits.{mostRows};
 ghost use Rattle.recordbytes.specs.Layout.{rowsStart, lastStart, wireStart, rowWidth, frameWidth, lastWidth, recordWidth};
 ghost use Rattle.recordbytes.specs.Record.{headFits, rowFits, frameFits, lastFits, wireFits, each, queueFits, isRecord};

@@ -1,11 +1,10 @@
 -- The words of a port's parts, stored one behind the other.
-use Prim.Native.Nat.{ℕ, suc, zero, _+_, _-_, _*_, _≤_, _<_, min}
+use Prim.Native.Nat.{ℕ, suc, zero, _+_, _-_, _≤_, _<_, min}
 use mathlib.Core.Bool.{Bool, true, false}
 use mathlib.Core.List.{List, [], _∷_, _++_, map, append-nil}
 use mathlib.Core.Path.{_≡_, refl, sym, _∙_, ap}
 use native.Mathlib.Omega.{arith}
 use lib.Dec.{leb}
-use lib.IntN.{ℤ}
 use lib.ListN.{length, take, replicate, length-take, length-map}
 use lib.Seq.{take-all, take-at}
 use borrow.Author.Tests.{le-leb, lt-leb, leb-true, leb-false}
@@ -23,7 +22,7 @@ use Rattle.machine.specs.Limits.{classPlaces, bestPlaces}
 use Rattle.machine.specs.State.{never, noFrame, waiting, instantOf, instantsOf, view}
 use Rattle.machine.proofs.Places.{waiting-length}
 use Rattle.words.specs.Words.{stored, spread}
-use Rattle.words.proofs.Laws.{more, two, three, four}
+use Rattle.words.proofs.Laws.{more, two, four}
 use Rattle.recordbytes.specs.Layout.{version, headStart, rowsStart, clockStart, queueaStart, queuebStart, bestStart, lastStart, wireStart, rowWidth, frameWidth, lastWidth, recordSize}
 use Rattle.recordbytes.specs.Record.{classWord, signedWord, headWords, rowWords, frameWords, lastWords, wireWords, tableOver, queueOver, recordOver}
 use Rattle.recordwrite.specs.Written.{written}

@@ -1,27 +1,24 @@
 -- A port kept as bytes, and the list of calls that has led to it.
-use Prim.Native.Nat.{ℕ, zero, suc, _+_, _-_, _≤_, _<_}
+use Prim.Native.Nat.{ℕ, _-_, _≤_, _<_}
 use mathlib.Core.Bool.{true, false}
-use mathlib.Core.List.{List, [], _∷_, _++_, append-nil}
+use mathlib.Core.List.{List, [], _∷_}
 use mathlib.Core.Path.{_≡_, refl, sym, _∙_, ap}
 use native.Mathlib.Omega.{arith}
-use lib.ListN.{length, take, drop, replicate, length-append, length-take, length-drop, length-map, length-replicate}
-use lib.Seq.{take-at}
+use lib.ListN.{length, length-append, length-take, length-drop, length-map, length-replicate}
 use borrow.Author.Tests.{le-leb, lt-leb, leb-true}
 use Rattle.table.specs.declared.Class.the-variants.{A, B}
-use Rattle.table.specs.declared.Row.{Row}
 use Rattle.table.specs.declared.Table.{Table}
 use Rattle.table.specs.Limits.{mostRows}
 use Rattle.table.specs.Rows.{noRow, rowsOf, contents}
 use Rattle.table.specs.Checks.{Outcome, accepted, refused}
 use Rattle.table.proofs.Laws.{never, rows-length}
-use Rattle.planner.specs.Opening.{opening}
 use Rattle.planner.proofs.Laws.{accepted-if}
 use Rattle.tablefile.specs.Reading.{readFile}
 use Rattle.tablefile.proofs.Laws.{read-filled}
 use Rattle.machine.specs.declared.Port.{Port}
 use Rattle.machine.specs.Limits.{noMark, bestPlaces}
-use Rattle.machine.specs.State.{State, fresh, instantOf, instantsOf, view}
-use Rattle.machine.specs.Record.{bestSound, sound}
+use Rattle.machine.specs.State.{State, fresh, instantsOf, view}
+use Rattle.machine.specs.Record.{bestSound}
 use Rattle.machine.specs.Calls as machines
 use Rattle.machine.specs.Calls.{Call, Answer, taken, passed, denied, answer, Keeps, Gives}
 use Rattle.machine.specs.Run.{Event, event, Run, called}
@@ -33,10 +30,10 @@ use Rattle.codes.proofs.Laws.{opened-accepted}
 use Rattle.recordbytes.specs.declared.Reading.{Reading}
 use Rattle.recordbytes.specs.Layout.{recordSize}
 use Rattle.recordbytes.specs.Record.{recordOver, stateOf, isRecord}
-use Rattle.recordbytes.specs.Fits.{Placed, Numbered, Fits}
+use Rattle.recordbytes.specs.Fits.{Placed, Numbered}
 use Rattle.recordbytes.specs.Port.{placed, tableFrom, portFrom, readRecord}
 use Rattle.recordbytes.proofs.Laws.{named-placed, long, placed-are, contents-back}
-use Rattle.recordbytes.proofs.Trip.{reading-written, same-parts, behind-kept}
+use Rattle.recordbytes.proofs.Trip.{reading-written, same-parts}
 use Rattle.recordwrite.specs.Written.{written}
 use Rattle.recordwrite.proofs.Laws.{written-fits}
 use Rattle.callbytes.specs.Calls.{answerSize, readCall, isReadable, callOf, answerBytes, fronted, isDenied}

@@ -8,9 +8,9 @@ use lib.Seq.{take-at}
 use Rattle.table.specs.declared.Table.{Table}
 use Rattle.table.specs.Limits.{mostRows}
 use Rattle.table.specs.Rows.{noRow, rowsOf}
-use Rattle.table.specs.Checks.{Outcome, accepted}
+use Rattle.table.specs.Checks.{accepted}
 use Rattle.tablefile.specs.Layout.{headerSize}
-use Rattle.tablefile.specs.Reading.{rowCount, behindRow, rowsFrom, tableOf, tableBy, readFile}
+use Rattle.tablefile.specs.Reading.{rowCount, behindRow, rowsFrom, tableOf, readFile}
 
 rows-count : (n : ℕ) (s : List ℕ) (at : ℕ) → length (rowsFrom n s at) ≡ n
 unfolding rowsFrom

@@ -1,5 +1,5 @@
 -- What the crates above may cite.
-pub use Rattle.words.proofs.Stored.{stored-front, more, two, three, four, stored-length, flat-length, bytes-length}
+pub use Rattle.words.proofs.Stored.{stored-front, more, two, three, four, stored-length, bytes-length}
 pub use Rattle.words.proofs.Storing.{array-places, Storing, storing-first, storing-next, storing-end}
 pub use Rattle.words.proofs.Fitting.{put-fits}
 pub use Rattle.words.proofs.Held.{Held, held-stored, held-same, word-small, stored-behind}

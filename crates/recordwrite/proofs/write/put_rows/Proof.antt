@@ -1,11 +1,10 @@
 -- `recordwrite::write::put_rows` meets its contract: after i turns the first i rows are stored.
 use Prim.Native.Nat.{_+_, _-_, _*_, _≤_, min}
-use mathlib.Core.Path.{_≡_, refl, sym, _∙_, ap}
+use mathlib.Core.Path.{_≡_, refl, _∙_, ap}
 use native.Mathlib.Omega.{arith}
 use lib.ListN.{length, take}
-use denote.Ref.{now}
 use Rattle.words.specs.Words.{spread}
-use Rattle.words.proofs.Laws.{stored-length, spread-none, spread-next, array-places}
+use Rattle.words.proofs.Laws.{stored-length, spread-none, spread-next}
 use Rattle.table.proofs.Laws.{places}
 use Rattle.recordbytes.specs.Layout.{rowsStart, rowWidth}
 use Rattle.recordbytes.specs.Record.{rowWords}
