@@ -17,5 +17,6 @@ mod Conservation
 mod Trace
 mod Lists
 pub mod Theorem
+pub mod EveryList
 pub mod Answers
 pub mod Places

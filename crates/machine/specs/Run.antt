@@ -49,6 +49,11 @@ abbrev pub AsMachine : Contents → List Event → Type 0
 AsMachine t [] = Unit {0}
 AsMachine t (event c a ∷ es) = (a ≡ answer (machine t es) c) × AsMachine t es
 
+-- Some calls, the newest first, with the answers that the machine gives.
+abbrev pub answered : Contents → List Call → List Event
+answered t [] = []
+answered t (c ∷ cs) = event c (answer (machine t (answered t cs)) c) ∷ answered t cs
+
 -- An event that happened, with the list before it.
 pub data Happened (e : Event) (before : List Event) : List Event → Type 0 where
   now : Happened e before (e ∷ before)
@@ -109,6 +114,20 @@ pub record Demand3 (t : Contents) (es : List Event) (p : Port) : Type 0 where
   -- every offer to a row which 11, 12 and 13, judged by their rules, let pass is taken
   pub space : (row payload : ℕ) (a : Answer) (before : List Event) → Happened (event (offer row payload) a) before es → InUse t row → payload ≤ rowAt t row .payload → tooSoon (lastTaken row before) (clockOf before) (periodOf (rowAt t row)) ≡ false → a ≡ taken
 
+-- A list that ran: it is a run, from opening by calls that keep their promises, and demand 3 holds of it.
+pub record Ran (t : Table) (es : List Event) : Type 0 where
+  pub port : Port
+  pub run : Run t es port
+  pub demand3 : Demand3 (contents t) es port
+
 -- Demand 3 holds of every run.
 abbrev pub EveryRun : Type 0
 EveryRun = (t : Table) (es : List Event) (p : Port) → Run t es p → Demand3 (contents t) es p
+
+-- Of an accepted table every list of calls, answered by the machine, is a run, to every record with the parts of the machine's port and the table. There is such a
+-- record, and demand 3 holds of the list.
+abbrev pub EveryList : Type 0
+EveryList = (t : Table) → opening (contents t) ≡ accepted → (cs : List Call) (p : Port) → view p ≡ machine (contents t) (answered (contents t) cs) → p .table ≡ t → Run t (answered (contents t) cs) p
+
+abbrev pub EveryListRan : Type 0
+EveryListRan = (t : Table) → opening (contents t) ≡ accepted → (cs : List Call) → Ran t (answered (contents t) cs)

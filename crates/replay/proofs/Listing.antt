@@ -13,13 +13,13 @@ use Rattle.table.specs.Rows.{Contents, contents}
 use Rattle.machine.specs.declared.Port.{Port}
 use Rattle.machine.specs.State.{State, view}
 use Rattle.machine.specs.Calls.{Call, Answer, answer}
-use Rattle.machine.specs.Run.{machine, Run, called}
+use Rattle.machine.specs.Run.{machine, Run, called, Ran}
 use Rattle.machine.proofs.Theorem.{every-run}
 use Rattle.callbytes.specs.Calls.{answerSize, answerBytes, fronted}
 use Rattle.callbytes.proofs.Laws.{answer-length, answer-fits}
 use Rattle.turns.specs.declared.Stepped.{Stepped}
 use Rattle.turns.specs.Turns.{Steps}
-use Rattle.replay.specs.List.{callAt, lowest, countOf, eventsOf, answersOf, Ran}
+use Rattle.replay.specs.List.{callAt, lowest, countOf, eventsOf, answersOf}
 
 -- ---- the lowest number that fails a test
 pub none-yet : (ok : ℕ → Bool) → lowest 0 ok ≡ 0

@@ -5,13 +5,11 @@ use mathlib.Core.List.{List, [], _∷_, _++_}
 use mathlib.Core.Path.{_≡_}
 use lib.Dec.{leb, eqb}
 use lib.ListN.{length, take, drop}
-use Rattle.table.specs.declared.Table.{Table}
 use Rattle.table.specs.Rows.{Contents, contents}
 use Rattle.table.specs.Checks.{Outcome, accepted, refused, unless, first}
 use Rattle.tablefile.specs.Reading.{readFile}
-use Rattle.machine.specs.declared.Port.{Port}
 use Rattle.machine.specs.Calls.{Call, answer}
-use Rattle.machine.specs.Run.{Event, event, machine, Run, Demand3}
+use Rattle.machine.specs.Run.{Event, event, machine, Ran}
 use Rattle.codes.specs.Codes.{codeOf, fileCheck}
 use Rattle.callbytes.specs.declared.Asked.{Asked}
 use Rattle.callbytes.specs.Calls.{callSize, answerSize, readCall, isReadable, callOf, answerBytes}
@@ -61,13 +59,7 @@ abbrev pub bufferBy : Outcome → Contents → List ℕ → List ℕ → List �
 bufferBy accepted t calls buffer = answersOf t calls (countOf calls) ++ drop (answerSize * countOf calls) buffer
 bufferBy (refused n p) t calls buffer = buffer
 
--- A list that ran: it is a run, from opening by calls that keep their promises, and demand 3 holds of it.
-pub record Ran (t : Table) (es : List Event) : Type 0 where
-  pub port : Port
-  pub run : Run t es port
-  pub demand3 : Demand3 (contents t) es port
-
--- The promise of a replay.
+-- The promise of a replay. The list with these answers ran: it is a run, and demand 3 holds of it.
 pub record Replayed (file calls before after : List ℕ) (r : ℕ) : Type 0 where
   pub code : r ≡ codeOf (replayCheck file calls (length before))
   pub buffer : after ≡ bufferBy (replayCheck file calls (length before)) (contents (readFile file .table)) calls before

@@ -6,8 +6,8 @@ use Rattle.table.specs.declared.Table.{Table}
 use Rattle.table.specs.Rows.{contents}
 use Rattle.table.specs.Checks.{accepted}
 use Rattle.machine.specs.declared.Port.{Port}
-use Rattle.machine.specs.Run.{Run}
-use Rattle.replay.specs.List.{countOf, eventsOf, bufferBy, Ran}
+use Rattle.machine.specs.Run.{Run, Ran}
+use Rattle.replay.specs.List.{countOf, eventsOf, bufferBy}
 
 -- All calls on a port that opening gave.
 abbrev pub Listed : Port → List ℕ → List ℕ → List ℕ → Type 0
