@@ -1,105 +1,58 @@
 // Opens the port of the table file `table.avb`, reads a call a line on standard input, and prints a line for each. At a
 // line of any other form it stops. A refused file gets one line with the refusal's number and place.
-ghost use Prim.Native.Nat.{_*_, _≤_};
+ghost use Prim.Native.Nat.{_≤_};
+ghost use mathlib.Core.List.{[], _∷_};
+ghost use mathlib.Core.Path.{_≡_};
 ghost use lib.ListN.{length};
-ghost use Rattle.portrun.specs.Runs.{AnswersTo};
-
-mod answers;
-
-use answers::make;
+ghost use Rattle.runs.specs.Runs.{goingOn, standing};
+ghost use Rattle.runs.specs.Led.{stopped, Led, LedOn, Plays};
 use libc::STDIN_FILENO;
 use libc::STDOUT_FILENO;
-use machine::AfterOpening;
-use machine::Port;
-use table::Verdict;
-use tablefile::Loaded;
-use tablefile::Reading;
-use texts::lines::Line;
-use texts::lines::Stepped;
-use texts::lines::step;
-use texts::text::Answer;
-use texts::text::put_answer;
+use runs::Run;
+use runs::input::answer_all;
+use runs::opened::begin;
 
-// What goes on from one read to the next.
-pub struct Run {
-    pub port: Port,
-    pub line: Line,
-    pub live: bool,
-}
-
-// The run after some bytes, and how many bytes their answers have.
-pub struct Answered {
-    pub run: Run,
-    pub count: usize,
-}
-
-// Makes the calls of the input's next bytes, and puts their answers into a buffer. An answer has at most 50 bytes.
-fn answer_all(run: Run, s: &[u8], out: &mut [u8]) -> Answered
-    requires { ⌜ 50 * length (now s) ≤ length (now out) ⌝ }
-    ensures { λ r. ⌜ AnswersTo run (now (s .entry)) (now (out .exit)) r ⌝ }
+fn stopped(run: Run) -> Run
+    ensures { λ r. ⌜ r ≡ stopped run ⌝ }
 {
-    let mut port = run.port;
-    let mut line = run.line;
-    let mut at = 0;
-    let mut i = 0;
-    while i < s.len() {
-        match step(line, s[i]) {
-            Stepped::More(l) => {
-                line = l;
-            }
-            Stepped::Whole(call) => {
-                let m = make(port, call);
-                let p = m.port;
-                port = p;
-                line = Line::Empty;
-                let a = m.answer;
-                at = put_answer(out, at, a);
-            }
-            Stepped::Other => {
-                return Answered {
-                    run: Run {
-                        port,
-                        line,
-                        live: false,
-                    },
-                    count: at,
-                };
-            }
-        }
-        i += 1;
-    }
-    Answered {
-        run: Run {
-            port,
-            line,
-            live: true,
-        },
-        count: at,
-    }
-}
-
-fn stopped(run: Run) -> Run {
     let mut r = run;
     r.live = false;
     r
 }
 
-// Makes the calls of some bytes, and writes their answers. Where they cannot be written, the run stops.
+// Writes a text. Where it cannot be written, the run stops.
+fn written(run: Run, text: &[u8]) -> Run
+    ensures { λ r. ⌜ Led (run .port .table) (standing run) r ⌝ }
+{
+    if io::write_all(STDOUT_FILENO, text) {
+        return run;
+    }
+    stopped(run)
+}
+
+// Makes the calls of some bytes, and writes their answers.
 fn fed(run: Run, s: &[u8]) -> Run
     requires { ⌜ length (now s) ≤ 1024 ⌝ }
+    ensures { λ r. ⌜ Led (run .port .table) (goingOn (standing run) (now (s .entry))) r ⌝ }
 {
     let mut out = io::large_buffer();
     let a = answer_all(run, s, &mut out);
     let n = a.count;
     let next = a.run;
-    if io::write_all(STDOUT_FILENO, &out[..n]) {
-        return next;
-    }
-    stopped(next)
+    written(next, &out[..n])
 }
 
-// Reads once, after all answers so far are written. The last line may lack its newline: the input's end ends it.
-fn turn(run: Run) -> Run {
+// The last line may lack its newline: the input's end ends it.
+fn last(run: Run) -> Run
+    ensures { λ r. ⌜ Led (run .port .table) (goingOn (standing run) (10 ∷ [])) r ⌝ }
+{
+    stopped(fed(run, b"\n"))
+}
+
+// Reads once, after all answers so far are written.
+fn turn(run: Run) -> Run
+    ensures { λ r. ⌜ LedOn (run .port .table) (standing run) r ⌝ }
+{
     let mut input = [0u8; 1024];
     let got = libc::read(STDIN_FILENO, &mut input);
     if got < 0 {
@@ -107,7 +60,7 @@ fn turn(run: Run) -> Run {
         return stopped(run);
     }
     if got == 0 {
-        return stopped(fed(run, b"\n"));
+        return last(run);
     }
     let n = io::count(got, &input);
     fed(run, &input[..n])
@@ -115,52 +68,30 @@ fn turn(run: Run) -> Run {
 
 // A proved loop has to end, and nothing says that the input does: the turns are counted down from a number that no run
 // uses up.
-fn calls(port: Port) {
-    let mut run = Run {
-        port,
-        line: Line::Empty,
-        live: true,
-    };
+fn calls(first: Run) -> Run
+    ensures { λ r. ⌜ LedOn (first .port .table) (standing first) r ⌝ }
+{
+    let mut run = first;
     let mut turns = u64::MAX;
     while turns > 0 {
         if !run.live {
-            return;
+            return run;
         }
         run = turn(run);
         turns -= 1;
     }
+    run
 }
 
-fn refused(number: u64, place: u64) {
+// The run of a table file.
+fn played(file: &[u8]) -> Run
+    ensures { λ r. ⌜ Plays (now (file .entry)) r ⌝ }
+{
     let mut out = io::buffer();
-    let n = put_answer(&mut out, 0, Answer::Refused(number, place));
-    io::write_all(STDOUT_FILENO, &out[..n]);
-}
-
-fn opened(o: AfterOpening) {
-    let verdict = o.verdict;
-    match verdict {
-        Verdict::Accepted => {
-            let port = o.port;
-            calls(port);
-        }
-        Verdict::Refused(r) => {
-            refused(table::numbers::number(r), table::numbers::place(r) as u64);
-        }
-    }
-}
-
-fn loaded(l: Loaded) {
-    let answer = l.answer;
-    match answer {
-        Reading::Whole => {
-            let t = l.table;
-            opened(offers::opening::open(t));
-        }
-        Reading::Refused(fault, place) => {
-            refused(tablefile::numbers::number(fault), place as u64);
-        }
-    }
+    let a = begin(file, &mut out);
+    let n = a.count;
+    let first = a.run;
+    calls(written(first, &out[..n]))
 }
 
 // A table file has at most 367 bytes, so a longer one is refused by what these bytes hold. Where fewer come, one more
@@ -181,5 +112,5 @@ fn main() {
         }
     }
     libc::close(fd);
-    loaded(tableread::read::read(&input[..n]));
+    played(&input[..n]);
 }

@@ -1,8 +1,9 @@
--- `portrun::fed` is safe: 1024 bytes have answers of at most 51,200 bytes.
+-- `portrun::fed` meets its contract: 1024 bytes have answers of at most 51,200 bytes, and the run that is written is the one that they lead to.
 use mathlib.Core.Path.{sym}
 use native.Mathlib.Omega.{arith}
 use lib.Seq.{length-take-le}
 use borrow.Author.Needs.{needs}
+use Rattle.runs.proofs.Laws.{count-fits, answers-led}
 use Rattle.portrun.proofs.fed.Statement.{statement}
 use Rattle.portrun.proofs.fed.Tie as tie
 
@@ -16,22 +17,16 @@ answer-all-requires : tie.Need-answer-all-requires
 answer-all-requires c κs = search needs
 
 array-share-prefix-out : tie.Need-array-share-prefix-out
-array-share-prefix-out c = search needs
+array-share-prefix-out c = omega (arith, count-fits (c .before .before .answer-all .ensures .shows))
 
-slice-aggregate-write-all : tie.Need-slice-aggregate-write-all
-slice-aggregate-write-all c = sym (length-take-le _ _ (omega arith))
+slice-aggregate-written : tie.Need-slice-aggregate-written
+slice-aggregate-written c = sym (length-take-le _ _ (omega (arith, count-fits (c .before .before .before .answer-all .ensures .shows))))
 
-write-all-requires : tie.Need-write-all-requires
-write-all-requires c κs = search needs
+written-requires : tie.Need-written-requires
+written-requires c κs = search needs
 
 returns : tie.Need-returns
-returns c = search needs
-
-stopped-requires : tie.Need-stopped-requires
-stopped-requires c κs = search needs
-
-returns-2 : tie.Need-returns-2
-returns-2 c = search needs
+returns c = answers-led (c .before .before .before .before .answer-all .ensures) (omega arith) (c .written .ensures)
 
 pub fed-spec : {M : Type 1} → statement M
 fed-spec =
@@ -41,8 +36,6 @@ fed-spec =
     slice-aggregate-answer-all
     answer-all-requires
     array-share-prefix-out
-    slice-aggregate-write-all
-    write-all-requires
-    returns
-    stopped-requires
-    returns-2)
+    slice-aggregate-written
+    written-requires
+    returns)

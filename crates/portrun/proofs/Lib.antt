@@ -1,4 +1,0 @@
--- Laws that belong to no one function.
-pub mod Forms
-pub mod OtherForms
-pub mod Runs
