@@ -16,7 +16,7 @@ use Rattle.codes.specs.Codes.{fileCheck}
 use Rattle.texts.proofs.Laws.{within}
 use Rattle.runs.specs.declared.Run.{Run}
 use Rattle.runs.specs.declared.Answered.{Answered}
-use Rattle.runs.specs.Runs.{Told, printed, told, goingOn, standing, toldOf, Shows, AnswersTo}
+use Rattle.runs.specs.Runs.{Told, printed, told, goingOn, standing, lineSize, toldOf, Shows, AnswersTo}
 use Rattle.runs.specs.Opened.{Begins}
 use Rattle.runs.specs.Printed.{eventsOf}
 use Rattle.runs.specs.Led.{stopped, Led, LedOn, Plays}
@@ -67,9 +67,9 @@ module _ {u : Told} {t : Table} {before after : List ℕ} {a : Answered} (s : Sh
   shown-led : {r : Run} → Led (a .run .port .table) (standing (a .run)) r → Led t u r
   shown-led h = record { state = h .state ∙ s .state; table = h .table ∙ s .table; line = h .line ∙ s .line; live = λ w. sym (s .live) ∙ h .live w }
 
-pub answers-led : {run r : Run} {bytes before after : List ℕ} {a : Answered} → AnswersTo run bytes before after a → 50 * length bytes ≤ length before → Led (a .run .port .table) (standing (a .run)) r → Led (run .port .table) (goingOn (standing run) bytes) r
+pub answers-led : {run r : Run} {bytes before after : List ℕ} {a : Answered} → AnswersTo run bytes before after a → lineSize * length bytes ≤ length before → Led (a .run .port .table) (standing (a .run)) r → Led (run .port .table) (goingOn (standing run) bytes) r
 answers-led {run} {r} {bytes} {before} p room h =
-    let z : toldOf run bytes before ≡ goingOn (standing run) bytes = rw (le-leb (50 * length bytes) (length before) room) refl in
+    let z : toldOf run bytes before ≡ goingOn (standing run) bytes = rw (le-leb (lineSize * length bytes) (length before) room) refl in
     rw (← z) (shown-led (p .shows) h)
 
 pub begins-led : {file before after : List ℕ} {a : Answered} {mid r : Run} → Begins file before after a → Led (a .run .port .table) (standing (a .run)) mid → LedOn (mid .port .table) (standing mid) r → Plays file r

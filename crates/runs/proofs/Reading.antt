@@ -11,17 +11,17 @@ use Rattle.table.proofs.Laws.{and-true}
 use Rattle.machine.specs.State.{view}
 use Rattle.runs.specs.declared.Run.{Run}
 use Rattle.runs.specs.declared.Answered.{Answered}
-use Rattle.runs.specs.Runs.{told, isRead, Shows, AnswersTo}
+use Rattle.runs.specs.Runs.{told, lineSize, isRead, Shows, AnswersTo}
 use Rattle.runs.proofs.Buffers.{none-put, none-used}
 
 no-read : {X : Type 0} → true ≡ false → X
 no-read e = let z : _≡_ {A = ℕ} 0 1 = cc in absurd (omega arith)
 
-pub no-room : (bytes room : ℕ) (live : Bool) → room < 50 * bytes → false ≡ leb (50 * bytes) room && live
-no-room bytes room live h = rw (lt-leb (50 * bytes) room h) refl
+pub no-room : (bytes room : ℕ) (live : Bool) → room < lineSize * bytes → false ≡ leb (lineSize * bytes) room && live
+no-room bytes room live h = rw (lt-leb (lineSize * bytes) room h) refl
 
-pub some-room : (bytes room : ℕ) (live : Bool) → 50 * bytes ≤ room → live ≡ leb (50 * bytes) room && live
-some-room bytes room live h = rw (le-leb (50 * bytes) room h) refl
+pub some-room : (bytes room : ℕ) (live : Bool) → lineSize * bytes ≤ room → live ≡ leb (lineSize * bytes) room && live
+some-room bytes room live h = rw (le-leb (lineSize * bytes) room h) refl
 
 module _ (run : Run) (bytes buffer : List ℕ) {b : Bool} (test : b ≡ isRead run bytes buffer) where
   pub not-read : b ≡ false → AnswersTo run bytes buffer buffer (record { run = run; count = 0 })
@@ -32,8 +32,8 @@ module _ (run : Run) (bytes buffer : List ℕ) {b : Bool} (test : b ≡ isRead r
         kept = λ _. refl;
       }
 
-  pub has-room : b ≡ true → 50 * length bytes ≤ length buffer
-  has-room e = leb-true (50 * length bytes) (length buffer) (and-true (leb (50 * length bytes) (length buffer)) (run .live) (sym test ∙ e) .0)
+  pub has-room : b ≡ true → lineSize * length bytes ≤ length buffer
+  has-room e = leb-true (lineSize * length bytes) (length buffer) (and-true (leb (lineSize * length bytes) (length buffer)) (run .live) (sym test ∙ e) .0)
 
   pub is-read : b ≡ true → {after : List ℕ} {r : Answered} → Shows (told bytes (view (run .port)) (run .line)) (run .port .table) buffer after r → AnswersTo run bytes buffer after r
   is-read e s =

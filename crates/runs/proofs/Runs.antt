@@ -20,7 +20,7 @@ use Rattle.runs.specs.declared.answers.AfterCall.{AfterCall}
 use Rattle.texts.specs.Lines.{stepOf}
 use Rattle.runs.specs.Answers.{answerOf, callOf, Made}
 use Rattle.texts.specs.Text.{lineOf, putAt, usedBy}
-use Rattle.runs.specs.Runs.{Told, printed, onStep, told, goingOn, Shows}
+use Rattle.runs.specs.Runs.{Told, printed, onStep, told, goingOn, lineSize, Shows}
 use Rattle.texts.proofs.Laws.{answer-put}
 use Rattle.runs.proofs.Buffers.{none-put, same-size, front-used, put-behind, used-behind}
 
@@ -44,7 +44,7 @@ shown {text = text} {buffer = buffer} port line live e f room n put =
 pub record Sofar (bytes : List ℕ) (first : Port) (begun : Line) (buffer out : List ℕ) (port : Port) (line : Line) (at i : ℕ) : Type 0 where
   pub text : List ℕ
   pub within : i ≤ length bytes
-  pub few : length text ≤ 50 * i
+  pub few : length text ≤ lineSize * i
   pub count : at ≡ length text
   pub put : out ≡ putAt text 0 buffer
   pub left : told bytes (view first) begun ≡ printed text (told (drop i bytes) (view port) line)
@@ -53,7 +53,7 @@ pub record Sofar (bytes : List ℕ) (first : Port) (begun : Line) (buffer out : 
 pub same-sized : {bytes : List ℕ} {first : Port} {begun : Line} {buffer out : List ℕ} {port : Port} {line : Line} {at i : ℕ} → Sofar bytes first begun buffer out port line at i → length out ≡ length buffer
 same-sized {buffer = buffer} so = ap length (so .put) ∙ same-size (so .text) buffer
 
-module _ (bytes : List ℕ) (first : Port) (begun : Line) (buffer : List ℕ) (room : 50 * length bytes ≤ length buffer) where
+module _ (bytes : List ℕ) (first : Port) (begun : Line) (buffer : List ℕ) (room : lineSize * length bytes ≤ length buffer) where
   pub none-yet : Sofar bytes first begun buffer buffer first begun 0 0
   none-yet = record { text = []; within = omega arith; few = omega arith; count = refl; put = sym (none-put buffer); left = refl; table = refl }
 

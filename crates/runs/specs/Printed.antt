@@ -20,7 +20,7 @@ use Rattle.runs.specs.Answers.{answerOf, callOf}
 use Rattle.runs.specs.Runs.{Told, goingOn}
 use Rattle.runs.specs.Opened.{begun}
 
--- The calls that some bytes state, the newest first, before others that came before. At a line of another form there is an end.
+-- The calls that some bytes state, the newest first, in front of those that came before them. A line of another form ends them.
 abbrev pub onCall : (Line → List Call → List Call) → List Call → Stepped → List Call
 onCall rest cs (More next) = rest next cs
 onCall rest cs (Whole c) = rest Empty (callOf c ∷ cs)

@@ -48,9 +48,13 @@ goingOn r bytes = cond (r .live) (printed (r .text) (told bytes (r .state) (r .l
 abbrev pub standing : Run → Told
 standing r = record { text = []; state = view (r .port); line = r .line; live = r .live }
 
--- Bytes are read if the run goes on and the buffer has 50 bytes for each, the most that an answer has. Of bytes that are not read nothing is told.
+-- The most bytes that an answer's line has.
+abbrev pub lineSize : ℕ
+lineSize = 50
+
+-- Bytes are read if the run goes on and the buffer has room for a line for each. Of bytes that are not read nothing is told.
 abbrev pub isRead : Run → List ℕ → List ℕ → Bool
-isRead run bytes buffer = leb (50 * length bytes) (length buffer) && run .live
+isRead run bytes buffer = leb (lineSize * length bytes) (length buffer) && run .live
 
 abbrev pub toldOf : Run → List ℕ → List ℕ → Told
 toldOf run bytes buffer = cond (isRead run bytes buffer) (told bytes (view (run .port)) (run .line)) (standing run)

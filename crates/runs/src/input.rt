@@ -5,7 +5,7 @@ ghost use mathlib.Core.Path.{_≡_};
 ghost use lib.Dec.{leb};
 ghost use lib.ListN.{length};
 ghost use Rattle.machine.specs.State.{view};
-ghost use Rattle.runs.specs.Runs.{told, Shows, AnswersTo};
+ghost use Rattle.runs.specs.Runs.{told, lineSize, Shows, AnswersTo};
 use crate::Answered;
 use crate::Run;
 use crate::answers::make;
@@ -14,12 +14,12 @@ use texts::lines::Stepped;
 use texts::lines::step;
 use texts::text::put_answer;
 
-// The most bytes that an answer has.
-pub const ANSWER_SIZE: usize = 50;
+// The most bytes that an answer's line has.
+pub const LINE_SIZE: usize = 50;
 
 // Makes the calls of some bytes, and puts their answers into a buffer that has room for them.
 fn answers(run: Run, s: &[u8], out: &mut [u8]) -> Answered
-    requires { ⌜ 50 * length (now s) ≤ length (now out) ⌝ }
+    requires { ⌜ lineSize * length (now s) ≤ length (now out) ⌝ }
     ensures { λ r. ⌜ Shows (told (now (s .entry)) (view (run .port)) (run .line)) (run .port .table) (now (out .entry)) (now (out .exit)) r ⌝ }
 {
     let mut port = run.port;
@@ -64,9 +64,9 @@ fn answers(run: Run, s: &[u8], out: &mut [u8]) -> Answered
 
 // Whether a run reads so many bytes: it goes on, and there is room for their answers.
 fn is_read(live: bool, bytes: usize, room: usize) -> bool
-    ensures { λ r. ⌜ r ≡ leb (50 * bytes) room && live ⌝ }
+    ensures { λ r. ⌜ r ≡ leb (lineSize * bytes) room && live ⌝ }
 {
-    if room / ANSWER_SIZE < bytes {
+    if room / LINE_SIZE < bytes {
         return false;
     }
     live

@@ -13,9 +13,9 @@ use texts::text::Answer;
 use texts::text::put_answer;
 
 // Whether more is read, and how many bytes the text of an outcome has.
-pub struct Said {
-    pub live: bool,
-    pub count: usize,
+struct Said {
+    live: bool,
+    count: usize,
 }
 
 // A refusal's line.
