@@ -33,8 +33,7 @@ fn answers(run: Run, s: &[u8], out: &mut [u8]) -> Answered
             }
             Stepped::Whole(call) => {
                 let m = make(port, call);
-                let p = m.port;
-                port = p;
+                port = m.port;
                 line = Line::Empty;
                 let a = m.answer;
                 at = put_answer(out, at, a);
