@@ -2,7 +2,7 @@
 use Prim.Native.Nat.{ℕ, zero, suc, _+_, _≤_, _<_}
 use mathlib.Core.Bool.{Bool, true, false, cond}
 use mathlib.Core.Path.{_≡_, refl, sym, _∙_, ap, subst}
-use native.Mathlib.Nat.{add-suc, add-zero, le-trans, le-suc}
+use native.Mathlib.Nat.{add-suc, add-zero}
 use native.Mathlib.Omega.{arith}
 use Rattle.table.specs.declared.Class.the-variants.{A, B}
 use Rattle.table.specs.Rows.{Contents, rowAt, InUse}
@@ -66,33 +66,39 @@ byte-ends s h f e l =
     let due = ends-in-time (start s) (h .u) (st .inv) f e (rw (same .table) l) in
     rw (byte-clock s) (rw (same .clock, same .table) at due)
 
--- ---- an advance
-pub record Reached (s : State) (n : ℕ) (p : Progress) : Type 0 where
+-- ---- an advance: no more byte-times pass than it asks for
+further-most : (n : ℕ) (p : Progress) (e : Ended) → p .passed ≤ n → further e p .passed ≤ suc n
+further-most n p (Reported f) h = omega arith
+further-most n p Nothing h = omega arith
+
+pub passed-most : (n : ℕ) (s : State) → progress n s .passed ≤ n
+unfolding progress
+passed-most zero s = omega arith
+passed-most (suc n) s = further-most n (progress n s) (progress n s .ended) (passed-most n s)
+
+pub record Reached (s : State) (p : Progress) : Type 0 where
   pub holds : Holds (p .state)
   pub table : p .state .table ≡ s .table
   pub last : p .state .last ≡ s .last
   pub clock : p .state .clock ≡ s .clock + p .passed
-  pub most : p .passed ≤ n
   pub in-time : (f : Frame) → p .ended ≡ Reported f → InUse (s .table) (f .source) → p .state .clock ≤ f .taken + bound (s .table) (rowAt (s .table) (f .source))
 
-go-on : (s : State) (n : ℕ) (p : Progress) (e : Ended) → p .ended ≡ e → s .clock + suc n ≤ lastClock → Reached s n p → Reached s (suc n) (further e p)
-go-on s n p (Reported f) q l r =
-    record { holds = r .holds; table = r .table; last = r .last; clock = r .clock; most = le-trans (r .most) (le-suc n); in-time = r .in-time }
-go-on s n p Nothing q l r =
+go-on : (s : State) (n : ℕ) (p : Progress) (e : Ended) → s .clock + suc n ≤ lastClock → p .passed ≤ n → Reached s p → Reached s (further e p)
+go-on s n p (Reported f) l m r = r
+go-on s n p Nothing l m r =
     record {
-      holds = byte-holds (p .state) (r .holds) (omega (arith, r .clock, r .most));
+      holds = byte-holds (p .state) (r .holds) (omega (arith, r .clock));
       table = byte-table (p .state) ∙ r .table;
       last = byte-last (p .state) ∙ r .last;
       clock = byte-clock (p .state) ∙ ap suc (r .clock) ∙ sym (add-suc (s .clock) (p .passed));
-      most = omega (arith, r .most);
       in-time = λ f e h. subst (λ (t : Contents). byteTime (p .state) .clock ≤ f .taken + bound t (rowAt t (f .source))) (r .table) (byte-ends (p .state) (r .holds) f e (rw (r .table) h));
     }
 
-pub advances : (s : State) (n : ℕ) → Holds s → s .clock + n ≤ lastClock → Reached s n (progress n s)
+pub advances : (s : State) (n : ℕ) → Holds s → s .clock + n ≤ lastClock → Reached s (progress n s)
 unfolding progress
 advances s zero h l =
-    record { holds = h; table = refl; last = refl; clock = sym (add-zero (s .clock)); most = omega arith; in-time = λ f e k. absurd (no-report e) }
+    record { holds = h; table = refl; last = refl; clock = sym (add-zero (s .clock)); in-time = λ f e k. absurd (no-report e) }
   where
     no-report : {f : Frame} → Nothing ≡ Reported f → ⊥
     no-report e = let z : _≡_ {A = ℕ} 0 1 = cc in omega arith
-advances s (suc n) h l = go-on s n (progress n s) (progress n s .ended) refl l (advances s n h (omega arith))
+advances s (suc n) h l = go-on s n (progress n s) (progress n s .ended) l (passed-most n s) (advances s n h (omega arith))

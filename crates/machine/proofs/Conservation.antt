@@ -3,7 +3,6 @@ use Prim.Native.Nat.{ℕ, zero, suc, _+_, _≤_}
 use mathlib.Core.Bool.{Bool, true, false, cond}
 use mathlib.Core.List.{List, [], _∷_, _++_}
 use mathlib.Core.Path.{_≡_, refl, ap}
-use native.Mathlib.Nat.{le-suc, le-trans}
 use native.Mathlib.Omega.{arith}
 use lib.Dec.{ltb, eqb}
 use borrow.Author.Tests.{ltb-true, ltb-false, lt-ltb, le-ltb, eqb-true, eqb-false}
@@ -20,13 +19,12 @@ use Rattle.machine.specs.State.{State}
 use Rattle.machine.specs.Time.{ready, headOut, behindHead, sendOf, sendBest, startOn, start, wireAfter, reportedIn, byteTime, endsIn, Progress, further, progress}
 use Rattle.machine.specs.Record.{count}
 use Rattle.machine.proofs.OneClass.{All}
+use Rattle.machine.proofs.EachFrame.{EachFrame, progress-each}
 use Rattle.machine.specs.Calls.{rowFrame, joined, takeRow, bestFrame, takeBest}
 
--- every waiting frame is at least as large as the smallest
-pub record Large (s : State) : Type 0 where
-  pub a : All (λ f. leastSize ≤ f .size) (s .a)
-  pub b : All (λ f. leastSize ≤ f .size) (s .b)
-  pub best : All (λ f. leastSize ≤ f .size) (s .best)
+-- a frame is at least as large as the smallest
+abbrev pub Large : Frame → Type 0
+Large f = leastSize ≤ f .size
 
 module _ (is : Frame → Bool) where
   abbrev pub among : List Frame → ℕ
@@ -49,11 +47,11 @@ module _ (is : Frame → Bool) where
   among-more (g ∷ q) f = omega (arith, among-more q f)
 
   -- a frame that starts has not been reported
-  head-moves : (q : List Frame) → All (λ f. leastSize ≤ f .size) q → among (behindHead q) + onWire (headOut q) ≡ among q
+  head-moves : (q : List Frame) → All Large q → among (behindHead q) + onWire (headOut q) ≡ among q
   head-moves [] p = omega arith
   head-moves (f ∷ q) p = rw (lt-ltb leftAtReport (f .size) (omega (arith, p .0))) (omega arith)
 
-  start-keeps : (s : State) → Large s → inPort (start s) ≡ inPort s
+  start-keeps : (s : State) → EachFrame Large s → inPort (start s) ≡ inPort s
   unfolding start
   start-keeps s p = by-wire (s .wire) refl
     where
@@ -86,19 +84,18 @@ module _ (is : Frame → Bool) where
   wire-keeps (Sending f (suc zero)) = byte-reports f 0
   wire-keeps (Sending f (suc (suc l))) = byte-reports f (suc l)
 
-  byte-keeps : (s : State) → Large s → inPort (byteTime s) + ended (endsIn s) ≡ inPort s
+  byte-keeps : (s : State) → EachFrame Large s → inPort (byteTime s) + ended (endsIn s) ≡ inPort s
   unfolding byteTime endsIn
   byte-keeps s p = omega (arith, start-keeps s p, wire-keeps (start s .wire))
 
-  further-keeps : (s : State) (p : Progress) (e : Ended) → p .ended ≡ e → Large (p .state) → inPort (p .state) + ended e ≡ inPort s → inPort (further e p .state) + ended (further e p .ended) ≡ inPort s
+  further-keeps : (s : State) (p : Progress) (e : Ended) → p .ended ≡ e → EachFrame Large (p .state) → inPort (p .state) + ended e ≡ inPort s → inPort (further e p .state) + ended (further e p .ended) ≡ inPort s
   further-keeps s p (Reported f) q g h = rw q h
   further-keeps s p Nothing q g h = omega (arith, byte-keeps (p .state) g)
 
-  -- `large` says that no frame of the port is smaller than the smallest, all along
-  pub advance-keeps : (s : State) (n : ℕ) → ((m : ℕ) → m ≤ n → Large (progress m s .state)) → inPort (progress n s .state) + ended (progress n s .ended) ≡ inPort s
+  pub advance-keeps : (s : State) → EachFrame Large s → (n : ℕ) → inPort (progress n s .state) + ended (progress n s .ended) ≡ inPort s
   unfolding progress
-  advance-keeps s zero large = omega arith
-  advance-keeps s (suc n) large = further-keeps s (progress n s) (progress n s .ended) refl (large n (le-suc n)) (advance-keeps s n (λ m h. large m (le-trans h (le-suc n))))
+  advance-keeps s p zero = omega arith
+  advance-keeps s p (suc n) = further-keeps s (progress n s) (progress n s .ended) refl (progress-each Large s p n .0) (advance-keeps s p n)
 
   joined-adds : (c : Class) (f : Frame) (s : State) → inPort (joined c f s) ≡ inPort s + count (is f)
   joined-adds A f s = omega (arith, among-more (s .a) f)

@@ -11,10 +11,13 @@ mod Offers
 mod Fresh
 mod Space
 mod Soundness
+mod Clauses
 pub mod FromSound
+mod EachFrame
 mod Advances
 mod Conservation
 mod Trace
+pub mod Within
 mod Lists
 pub mod Theorem
 pub mod EveryList

@@ -12,24 +12,27 @@ use lib.Seq.{getD-set-same, getD-set-other}
 use borrow.Author.Tests.{eqb-true, eqb-false, ne-eqb, ltb-false}
 use Rattle.table.specs.declared.Class.{Class}
 use Rattle.table.specs.declared.Class.the-variants.{A, B}
-use Rattle.table.specs.Limits.{leastSize, leastPeriod}
+use Rattle.table.specs.Limits.{leastPeriod}
 use Rattle.table.specs.Wire.{sizeFor, periodOf}
 use Rattle.table.specs.Rows.{Contents, rowAt, InUse}
 use Rattle.planner.specs.Opening.{IsAccepted}
 use Rattle.table.proofs.Laws as table
 use Rattle.planner.proofs.Laws as law
 use Rattle.machine.specs.declared.Frame.{Frame}
+use Rattle.machine.specs.declared.Wire.{Wire}
+use Rattle.machine.specs.declared.Wire.the-variants.{Free, Sending}
 use Rattle.machine.specs.declared.Ended.{Ended}
 use Rattle.machine.specs.declared.Ended.the-variants.{Reported, Nothing}
 use Rattle.machine.specs.State.{Instant, never, at, State, fresh}
-use Rattle.machine.specs.Time.{progress}
+use Rattle.machine.specs.Time.{Owner, shaped, unshaped, owner, progress}
 use Rattle.machine.specs.Record.{count}
 use Rattle.machine.specs.Calls.{Call, offer, offerBest, advance, Answer, taken, passed, denied, tooSoon, early, rowFrame, takeRow, bestFrame, takeBest}
 use Rattle.machine.specs.Run.{Event, event, clockOf, lastTaken, newest, named, reportedBy, reports}
 use Rattle.machine.proofs.OneClass.{All}
-use Rattle.machine.proofs.Invariant.{RowFrame, BestFrame, Holds}
+use Rattle.machine.proofs.Invariant.{RowFrame, BestFrame, WireFrame, OnTheWire, Holds}
 use Rattle.machine.proofs.Offers as offers
 use Rattle.machine.proofs.Fresh.{rest, fresh-kept}
+use Rattle.machine.proofs.EachFrame.{OnWire, EachFrame}
 use Rattle.machine.proofs.Advances.{advances}
 use Rattle.machine.proofs.Conservation.{Large, inPort, ended, advance-keeps, row-adds, best-adds}
 use Rattle.machine.proofs.Trace.{Step, row-taken, best-taken, advanced, refusal, Trace, start, step}
@@ -121,18 +124,31 @@ module _ (t : Contents) (ok : IsAccepted t) where
   along (step w q) = step-along (along w) q
 
 -- ---- conservation: taken = in the port and not reported + reported
-row-sizes : (c : Class) (t : Contents) (q : List Frame) → All (RowFrame c t) q → All (λ f. leastSize ≤ f .size) q
+row-sizes : (c : Class) (t : Contents) (q : List Frame) → All (RowFrame c t) q → All Large q
 row-sizes c t [] p = tt
 row-sizes c t (f ∷ q) p = (p .0 .least, row-sizes c t q (p .1))
 
-best-sizes : (t : Contents) (now : ℕ) (q : List Frame) → All (BestFrame t now) q → All (λ f. leastSize ≤ f .size) q
+best-sizes : (t : Contents) (now : ℕ) (q : List Frame) → All (BestFrame t now) q → All Large q
 best-sizes t now [] p = tt
 best-sizes t now (f ∷ q) p = (p .0 .least, best-sizes t now q (p .1))
 
-large-of : {s : State} → Holds s → Large s
-large-of {s} h =
+wire-sizes : (t : Contents) (now : ℕ) (w : Wire) → OnTheWire t now w → OnWire Large w
+wire-sizes t now Free p = tt
+wire-sizes t now (Sending f l) p = go (owner t f) p
+  where
+    go : (o : Owner) → WireFrame o t now f l → Large f
+    go (shaped c) r = r .least
+    go unshaped r = r .0 .least
+
+larges : {s : State} → Holds s → EachFrame Large s
+larges {s} h =
     let f = h .inv .always .frames in
-    record { a = row-sizes A (s .table) (s .a) (f .rows A); b = row-sizes B (s .table) (s .b) (f .rows B); best = best-sizes (s .table) (s .clock) (s .best) (f .best) }
+    record {
+      a = row-sizes A (s .table) (s .a) (f .rows A);
+      b = row-sizes B (s .table) (s .b) (f .rows B);
+      best = best-sizes (s .table) (s .clock) (s .best) (f .best);
+      wire = wire-sizes (s .table) (s .clock) (s .wire) (f .wire);
+    }
 
 module _ (t : Contents) (row inst size : ℕ) where
   abbrev pub takes : List Event → ℕ
@@ -161,8 +177,7 @@ module _ (t : Contents) (row inst size : ℕ) where
     step-conserves {es} {s} w h (best-taken p pays room) =
         omega (arith, best-adds (named row inst size) s p, not-best (bestFrame s p) (omega (arith, in-use .below, law.rows-most t ok)) refl)
     step-conserves {es} {s} w h (advanced n room) =
-        let large : (m : ℕ) → m ≤ n → Large (progress m s .state) = λ m g. large-of (advances s m (w .holds) (omega arith) .holds) in
-        omega (arith, advance-keeps (named row inst size) s n large, reported-is (progress n s .passed) (progress n s .ended))
+        omega (arith, advance-keeps (named row inst size) s (larges (w .holds)) n, reported-is (progress n s .passed) (progress n s .ended))
     step-conserves {es} {s} w h (refusal (offer k p) n l g q) = omega arith
     step-conserves {es} {s} w h (refusal (offerBest p) n l g q) = omega arith
     step-conserves {es} {s} w h (refusal (advance m) n l g q) = omega arith

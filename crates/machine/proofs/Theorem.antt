@@ -130,7 +130,7 @@ module _ (t : Contents) (ok : IsAccepted t) where
 
   -- no call meets 18
   unbroken : {es : List Event} {s : State} → Trace t es s → (c : Call) (place : ℕ) (before : List Event) → Happened (event c (denied 18 place)) before es → ⊥
-  unbroken (step w (refusal d n l g r)) c place before now = g refl
+  unbroken (step w (refusal d n l g r)) c place before now = omega (arith, g .below)
   unbroken (step w x) c place before (since y) = unbroken w c place before y
 
   -- every offer that 11, 12 and 13 let pass is taken
