@@ -1,3 +1,4 @@
--- Laws that belong to no one function. `Laws` is what the crates above may cite.
+-- Laws that belong to no one function. `Trip` has the theorems; `Laws` is what the crates above may cite.
 mod Answered
+pub mod Trip
 pub mod Laws

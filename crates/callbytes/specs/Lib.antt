@@ -1,2 +1,3 @@
--- Calls and answers as bytes.
+-- Calls and answers as bytes, and the round trips' statements.
 pub mod Calls
+pub mod RoundTrip

@@ -1,16 +1,16 @@
 -- Words that stand in bytes from a place on: what was stored there is read there, and storing it again changes nothing.
 use Prim.Native.Nat.{ℕ, zero, suc, _+_, _-_, _*_, _/_, _%_, _≤_, _<_}
 use mathlib.Core.Bool.{Bool, true, false, cond}
-use mathlib.Core.List.{List, [], _∷_, _++_, append-assoc}
+use mathlib.Core.List.{List, [], _∷_, _++_, append-assoc, append-nil}
 use mathlib.Core.Path.{_≡_, refl, sym, _∙_, ap}
 use native.Mathlib.Nat.{add-zero, add-assoc}
 use native.Mathlib.Omega.{arith}
 use lib.Dec.{leb}
-use lib.ListN.{length, getD, take, drop, length-append, length-take, length-drop, set}
+use lib.ListN.{length, getD, take, drop, length-append, length-take, length-drop, drop-of-length-le, set}
 use lib.Seq.{getD-drop, drop-at, drop-drop, sets, sets-eq, getD-set-other, set-getD, length-sets}
 use Rattle.words.specs.Words.{Every, Bytes, Word, flat, halfBytes, wordBytes, halfAt, wordAt, stored}
 use Rattle.words.proofs.Fitting.{word-inside}
-use Rattle.words.proofs.Stored.{bytes-length, sets-append, stored-nothing, stored-append}
+use Rattle.words.proofs.Stored.{bytes-length, sets-append, stored-nothing, stored-append, stored-front}
 
 abbrev pub Held : List ℕ → ℕ → List ℕ → Type 0
 Held s k [] = Unit {0}
@@ -59,6 +59,10 @@ held-from s (w ∷ ws) after k e f =
     let q : 8 * k + 8 ≡ 8 * (k + 1) = omega arith in
     let next : drop (8 * (k + 1)) s ≡ rest = rw (← q, ← drop-drop 8 (8 * k) s, here) (drop-at (wordBytes w) rest 8 (word-length w)) in
     (word-at s k w rest (f .0) (omega arith) here, held-from s ws after (k + 1) next (f .1))
+
+-- bytes that are words and nothing else
+pub held-whole : (ws : List ℕ) → Every Word ws → Held (flat wordBytes ws) 0 ws
+held-whole ws f = held-from (flat wordBytes ws) ws [] 0 (sym (append-nil (flat wordBytes ws))) f
 
 -- what was stored is held
 pub held-stored : (s : List ℕ) (k : ℕ) (ws : List ℕ) → Every Word ws → 8 * (k + length ws) ≤ length s → Held (stored s k ws) k ws
@@ -139,6 +143,13 @@ module _ (s : List ℕ) (b : Bytes s) where
   held-same k [] room h = stored-nothing s k
   held-same k (w ∷ ws) room h =
       sym (stored-append s k (w ∷ []) ws) ∙ rw (same-word k w (omega arith) (h .0)) (held-same (k + 1) ws (omega arith) (h .1))
+
+  -- as many bytes as the words that they hold have are those words' bytes
+  pub whole-held : (ws : List ℕ) → length s ≡ 8 * length ws → Held s 0 ws → flat wordBytes ws ≡ s
+  whole-held ws n h =
+      let none : drop (8 * length ws) s ≡ [] = drop-of-length-le s {i = 8 * length ws} (omega arith) in
+      let front : stored s 0 ws ≡ flat wordBytes ws ++ [] = stored-front s ws (omega arith) ∙ rw none refl in
+      sym (append-nil (flat wordBytes ws)) ∙ sym front ∙ held-same 0 ws (omega arith) h
 
 -- ---- bytes behind what is stored
 sets-behind : (vs l : List ℕ) (i j : ℕ) → i + length vs ≤ j → getD (sets l i vs) j 0 ≡ getD l j 0
