@@ -15,6 +15,9 @@ use Rattle.machine.specs.State.{State, never, at, fresh}
 use Rattle.machine.specs.Time.{owner, start, reportedIn, byteTime, endsIn, progress}
 use Rattle.machine.specs.Record.{tableSound, clockSound, creditSound, bestSound, namesSound, queuesSound, sizesSound, leftSound, framesTaken, rowsTaken, held, heldSound, latestSound, ageSound, sound}
 use Rattle.machine.specs.Calls.{offer, advance, after, answer, offerCheck, bestCheck, advanceCheck, takeRow, takeBest}
+use Rattle.tablefile.specs.Layout.{valueAt, bytesOf, defaultOf, bitOf}
+use Rattle.tablefile.specs.Reading.{opens, header, rowFrom, row, rowsChecks, rowsFrom, rowsEnd, readFile}
+use Rattle.tablefile.specs.Writing.{mapByte, rowBytes, rowsBytes, headerBytes, fileOf}
 use Rattle.facts.specs.Specimen.{specimen}
 use Rattle.facts.specs.Facts.{port, inG, Facts}
 
@@ -23,11 +26,13 @@ abbrev stateG : State
 stateG = record { table = specimen; clock = 15624; credita = pos 0; creditb = pos 0; a = []; b = []; best = []; last = at 0 ∷ never ∷ never ∷ []; wire = Free }
 
 pub facts : Facts
-unfolding ceilDiv wireSize sizeFor sizeOf periodOf shareOf rowsOf inUse passing countOk headerOk rowOk ranged sumOver maxOver members largest total shares bestSize blocking residenceIn residence bound bounds usedOk slopesOk sharesOk timely opening mostOf fresh owner start reportedIn byteTime endsIn progress tableSound clockSound creditSound bestSound namesSound queuesSound sizesSound leftSound framesTaken rowsTaken held heldSound latestSound ageSound sound offerCheck bestCheck advanceCheck takeRow takeBest
+unfolding ceilDiv wireSize sizeFor sizeOf periodOf shareOf rowsOf inUse passing countOk headerOk rowOk ranged sumOver maxOver members largest total shares bestSize blocking residenceIn residence bound bounds usedOk slopesOk sharesOk timely opening mostOf fresh owner start reportedIn byteTime endsIn progress tableSound clockSound creditSound bestSound namesSound queuesSound sizesSound leftSound framesTaken rowsTaken held heldSound latestSound ageSound sound offerCheck bestCheck advanceCheck takeRow takeBest valueAt bytesOf defaultOf bitOf opens header rowFrom row rowsChecks rowsFrom rowsEnd readFile mapByte rowBytes rowsBytes headerBytes fileOf
 facts =
     let g : port inG ≡ stateG = refl in
     record {
       table = refl;
+      reads = refl;
+      writes = refl;
       a = refl;
       a-blocking = refl;
       b-blocking = refl;

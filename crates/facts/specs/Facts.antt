@@ -12,7 +12,9 @@ use Rattle.planner.specs.Opening.{opening}
 use Rattle.machine.specs.declared.Ended.the-variants.{Reported}
 use Rattle.machine.specs.State.{State, fresh}
 use Rattle.machine.specs.Calls.{Call, offer, offerBest, advance, taken, passed, denied, after, answer}
-use Rattle.facts.specs.Specimen.{specimen, specimenWith, specimenTable}
+use Rattle.tablefile.specs.Reading.{readFile}
+use Rattle.tablefile.specs.Writing.{fileOf}
+use Rattle.facts.specs.Specimen.{specimen, specimenWith, specimenTable, specimenBytes}
 
 -- The port after calls, the first one first.
 abbrev pub played : State → List Call → State
@@ -37,6 +39,9 @@ inG = offer 0 58 ∷ advance 100 ∷ advance 15524 ∷ []
 pub record Facts : Type 0 where
   -- the table record says what the specimen says
   pub table : contents specimenTable ≡ specimen
+  -- the 28 bytes are read as that record, and what the specimen says is written as the 28 bytes
+  pub reads : readFile specimenBytes ≡ record { outcome = accepted; table = specimenTable }
+  pub writes : fileOf specimen ≡ specimenBytes
   -- (a) the three bounds; HA and HB; the sheet's wire sizes
   pub a : bounds specimen ≡ 3742 ∷ 3142 ∷ 4856 ∷ replicate 29 0
   pub a-blocking : blocking A specimen ≡ 1542
