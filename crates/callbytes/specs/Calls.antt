@@ -40,7 +40,7 @@ isReadable (OfferBest payload) = true
 isReadable (Advance n) = true
 isReadable Unreadable = false
 
--- A call that can't be read is refused, so what stands for it is never made.
+-- An advance by 0 stands for a call that can't be read. The calls that C links refuse such a call, and make none.
 abbrev pub callOf : Asked → Call
 callOf (Offer row payload) = offer row payload
 callOf (OfferBest payload) = offerBest payload

@@ -1,78 +1,21 @@
--- Of an accepted table every list of calls is a run: after each call there is a record with the parts of the machine's port, and it has as many places as it takes.
-use Prim.Native.Nat.{ℕ}
-use mathlib.Core.Bool.{true}
-use mathlib.Core.List.{List, [], _∷_, map}
-use mathlib.Core.Path.{_≡_, refl, sym, _∙_, ap}
-use native.Mathlib.Omega.{arith}
-use lib.ListN.{length, length-map}
-use lib.Seq.{take-length}
+-- Of an accepted table every list of calls is a run: after each call there is a record with the parts of the machine's port, in places as a program's record has them.
+use mathlib.Core.List.{List, [], _∷_}
+use mathlib.Core.Path.{_≡_, refl, sym, _∙_}
 use Rattle.table.specs.declared.Table.{Table}
 use Rattle.table.specs.declared.Verdict.the-variants.{Accepted}
-use Rattle.table.specs.Rows.{Contents, contents}
+use Rattle.table.specs.Rows.{contents}
 use Rattle.table.specs.Checks.{accepted}
-use Rattle.table.proofs.Laws.{rows-length}
 use Rattle.planner.specs.Opening.{opening}
 use Rattle.planner.proofs.Laws as law
-use Rattle.machine.specs.declared.Frame.{Frame}
-use Rattle.machine.specs.declared.Last.{Last}
 use Rattle.machine.specs.declared.Port.{Port}
-use Rattle.machine.specs.State.{Instant, never, at, State, waiting, instantOf, instantsOf, view, zeroLast}
+use Rattle.machine.specs.State.{State, view, portOf}
 use Rattle.machine.specs.Calls.{Call, Answer, after, answer, Keeps, Gives}
 use Rattle.machine.specs.Run.{event, Run, opened, called, machine, answered, EveryList, EveryListRan}
-use Rattle.machine.proofs.Places.{waits, instants-few}
+use Rattle.machine.proofs.Placing.{view-back}
 use Rattle.machine.proofs.Soundness.{is-sound}
 use Rattle.machine.proofs.Trace.{Step, row-taken, best-taken, advanced, refusal, Trace, start, step, any-step}
 use Rattle.machine.proofs.Lists.{along}
-use Rattle.machine.proofs.Theorem.{every-run}
-
--- ---- a record with the parts of a port
-lastOf : Instant → Last
-lastOf never = zeroLast
-lastOf (at k) = record { known = true; taken = k }
-
-portOf : Table → State → Port
-portOf t s =
-    record {
-      table = t;
-      clock = s .clock;
-      credita = s .credita;
-      creditb = s .creditb;
-      a = record { count = length (s .a); frames = s .a };
-      b = record { count = length (s .b); frames = s .b };
-      best = record { count = length (s .best); frames = s .best };
-      last = map lastOf (s .last);
-      wire = s .wire;
-    }
-
-all-wait : (fs : List Frame) → waiting (length fs) fs ≡ fs
-all-wait fs = waits (length fs) fs (omega arith) ∙ take-length fs
-
-the-instants : (is : List Instant) → map instantOf (map lastOf is) ≡ is
-unfolding lastOf
-the-instants [] = refl
-the-instants (never ∷ is) = ap (λ (js : List Instant). never ∷ js) (the-instants is)
-the-instants (at k ∷ is) = ap (λ (js : List Instant). at k ∷ js) (the-instants is)
-
-all-instants : (n : ℕ) (is : List Instant) → length is ≡ n → instantsOf n (map lastOf is) ≡ is
-all-instants n is e =
-    let l : n ≡ length (map lastOf is) = sym e ∙ sym (length-map is lastOf) in
-    instants-few n (map lastOf is) (omega arith) ∙ rw (l, take-length (map lastOf is)) (the-instants is)
-
-view-of : (t : Table) (s : State) → s .table ≡ contents t → length (s .last) ≡ length (s .table .rows) → view (portOf t s) ≡ s
-unfolding view portOf
-view-of t s e l =
-    let n : length (s .last) ≡ t .count = l ∙ ap (λ (c : Contents). length (c .rows)) e ∙ rows-length t in
-    λ i. record {
-      table = sym e i;
-      clock = s .clock;
-      credita = s .credita;
-      creditb = s .creditb;
-      a = all-wait (s .a) i;
-      b = all-wait (s .b) i;
-      best = all-wait (s .best) i;
-      last = all-instants (t .count) (s .last) n i;
-      wire = s .wire;
-    }
+use Rattle.machine.proofs.Theorem.{along-placed, every-run}
 
 -- ---- the machine's port after some calls, and a record that has its parts
 gives : {p q : Port} {s : State} {c : Call} {a : Answer} → view p ≡ s → a ≡ answer s c → view q ≡ after s c → q .table ≡ p .table → Keeps a p q → Gives p c a q
@@ -91,7 +34,7 @@ module _ (t : Table) (ok : opening (contents t) ≡ accepted) where
   trace-of (c ∷ cs) = let w = trace-of cs in step w (a-step cs w c)
 
   record-of : (cs : List Call) → view (portOf t (after-calls cs)) ≡ after-calls cs
-  record-of cs = let a = along (contents t) (law.accepted-if (contents t) ok) (trace-of cs) in view-of t (after-calls cs) (a .table) (a .holds .inv .always .instants .lasts)
+  record-of cs = let a = along (contents t) (law.accepted-if (contents t) ok) (trace-of cs) in view-back t (after-calls cs) (sym (a .table)) (along-placed a)
 
   -- ---- a run to each record that has its parts
   RunsTo : List Call → Type 0

@@ -20,6 +20,7 @@ mod Trace
 pub mod Within
 mod Lists
 pub mod Theorem
+pub mod Placing
 pub mod EveryList
 pub mod Answers
 pub mod Places

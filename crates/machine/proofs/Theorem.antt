@@ -9,6 +9,7 @@ use mathlib.Core.Path.{_≡_, refl, sym, _∙_, ap, subst}
 use native.Mathlib.Nat.{eq-zero-or-pos, le-trans, le-add-left}
 use native.Mathlib.Omega.{arith}
 use lib.Dec.{ltb}
+use lib.ListN.{length}
 use borrow.Author.Tests.{eq-eqb, ltb-true}
 use Rattle.table.specs.Wire.{sizeFor, periodOf}
 use Rattle.table.specs.declared.Class.{Class}
@@ -25,8 +26,8 @@ use Rattle.machine.specs.declared.Wire.the-variants.{Free, Sending}
 use Rattle.machine.specs.declared.Ended.{Ended}
 use Rattle.machine.specs.declared.Ended.the-variants.{Reported, Nothing}
 use Rattle.machine.specs.declared.Port.{Port}
-use Rattle.machine.specs.Limits.{lastClock}
-use Rattle.machine.specs.State.{State, queue, view}
+use Rattle.machine.specs.Limits.{lastClock, classPlaces}
+use Rattle.machine.specs.State.{State, queue, view, Placed}
 use Rattle.machine.specs.Time.{progress}
 use Rattle.machine.specs.Record.{count, sound}
 use Rattle.machine.specs.Calls.{Call, offer, offerBest, advance, Answer, taken, passed, denied, tooSoon, after, answer}
@@ -177,6 +178,17 @@ named-in : (s : State) (q : List Frame) (c : Class) → All (RowFrame c (s .tabl
 named-in s [] c r = tt
 named-in s (f ∷ q) c r = (r .0 .names, named-in s q c (r .1))
 
+-- no more frames of a class wait than its queue has places, and all of a port's parts find theirs
+class-places : {t : Contents} {es : List Event} {s : State} → Along t es s → (c : Class) → length (queue c s) ≤ classPlaces
+class-places {s = s} w c =
+    let i = w .holds .inv in
+    in-places s (i .always .accepted) (i .timed .rows .few) c (named-in s (queue c s) c (i .always .frames .rows c))
+
+pub along-placed : {t : Contents} {es : List Event} {s : State} → Along t es s → Placed s
+along-placed w =
+    let a = w .holds .inv .always in
+    record { rows = a .accepted .ranges .most; a = class-places w A; b = class-places w B; best = a .frames .few; last = a .instants .lasts }
+
 opened-accepted : {t : Table} {es : List Event} {p : Port} → Run t es p → IsAccepted (contents t)
 opened-accepted {t} (opened o e) = law.accepted-if (contents t) e
 opened-accepted (called r g) = opened-accepted r
@@ -196,11 +208,11 @@ as-machine : {t : Table} {es : List Event} {p : Port} → Run t es p → AsMachi
 as-machine {t} (opened o e) = tt
 as-machine {t} (called {c = c} r g) = (g .answer ∙ ap (λ (s : State). answer s c) (on-machine r), as-machine r)
 
--- every run leads to a sound record
-pub run-sound : {t : Table} {es : List Event} {p : Port} → Run t es p → sound (view p) ≡ true
-run-sound {t} r = sound-along (contents t) (opened-accepted r) (along (contents t) (opened-accepted r) (traced r))
+-- every run leads to a port whose parts find their places
+pub run-placed : {t : Table} {es : List Event} {p : Port} → Run t es p → Placed (view p)
+run-placed {t} r = along-placed (along (contents t) (opened-accepted r) (traced r))
 
--- A step of a run is any call that promises `Gives`: those by value, and the advance of a lent record (crate lent).
+-- A step of a run is any call that promises `Gives`: those by value, and the advance of a lent record (crate lent_port).
 pub every-run : EveryRun
 every-run t es p r =
     let ok = opened-accepted r in
@@ -209,7 +221,7 @@ every-run t es p r =
     record {
       faithful = record { answers = as-machine r; clock = a .clock; port = on-machine r };
       served = λ row payload before x. served (contents t) ok w row payload before x;
-      places = λ c. in-places (view p) (a .holds .inv .always .accepted) (a .holds .inv .timed .rows .few) c (named-in (view p) (queue c (view p)) c (a .holds .inv .always .frames .rows c));
+      places = class-places a;
       unbroken = λ c place before x. unbroken (contents t) ok w c place before x;
       space = λ row payload a before x h g e. space (contents t) ok w row payload a before x h g e;
     }

@@ -1,12 +1,13 @@
 -- A port by its parts.
-use Prim.Native.Nat.{ℕ, _-_}
-use mathlib.Core.Bool.{false, cond}
+use Prim.Native.Nat.{ℕ, _-_, _≤_}
+use mathlib.Core.Bool.{true, false, cond}
 use mathlib.Core.List.{List, [], _++_, map}
 use mathlib.Core.Path.{_≡_}
 use lib.IntN.{ℤ, pos}
 use lib.ListN.{take, length, replicate}
 use Rattle.table.specs.declared.Class.{Class}
 use Rattle.table.specs.declared.Class.the-variants.{A, B}
+use Rattle.table.specs.declared.Table.{Table}
 use Rattle.table.specs.Limits.{mostRows}
 use Rattle.table.specs.Rows.{Contents, contents}
 use Rattle.machine.specs.declared.Frame.{Frame}
@@ -123,3 +124,34 @@ zeroFrame = record { source = 0; size = 0; taken = 0 }
 
 abbrev pub zeroLast : Last
 zeroLast = record { known = false; taken = 0 }
+
+-- n places: the things of a list, and z in each place behind them.
+unfoldable pub placed : {X : Type 0} → ℕ → X → List X → List X
+placed n z xs = take n (xs ++ replicate n z)
+
+abbrev pub lastOf : Instant → Last
+lastOf never = zeroLast
+lastOf (at k) = record { known = true; taken = k }
+
+-- The record of a port by its parts, over a table record, with zeros in the places that belong to none.
+unfoldable pub portOf : Table → State → Port
+portOf t s =
+    record {
+      table = t;
+      clock = s .clock;
+      credita = s .credita;
+      creditb = s .creditb;
+      a = record { count = length (s .a); frames = placed classPlaces zeroFrame (s .a) };
+      b = record { count = length (s .b); frames = placed classPlaces zeroFrame (s .b) };
+      best = record { count = length (s .best); frames = placed bestPlaces zeroFrame (s .best) };
+      last = placed mostRows zeroLast (map lastOf (s .last));
+      wire = s .wire;
+    }
+
+-- A port whose parts find their places: as many things as there are places at most, and an instant or none for each row.
+pub record Placed (s : State) : Type 0 where
+  pub rows : length (s .table .rows) ≤ mostRows
+  pub a : length (s .a) ≤ classPlaces
+  pub b : length (s .b) ≤ classPlaces
+  pub best : length (s .best) ≤ bestPlaces
+  pub last : length (s .last) ≡ length (s .table .rows)

@@ -106,7 +106,7 @@ fn main() {
     let n = io::read_full(fd, &mut input);
     let mut more = [0u8; 1];
     if n < 512 {
-        if libc::read(fd, &mut more) < 0 {
+        if libc::read(fd, &mut more) != 0 {
             os::fail(b"portrun: table.avb");
             return;
         }

@@ -1,29 +1,18 @@
--- Things in places, with zeros behind them: the port record that is made of a port's parts has these parts.
+-- Things in places, with zeros behind them: one thing more, and the port record that is made of a port's parts.
 use Prim.Native.Nat.{ℕ, zero, suc, _+_, _-_, _≤_, _<_}
-use mathlib.Core.List.{List, [], _∷_, _++_, map, append-assoc, append-nil}
+use mathlib.Core.List.{List, [], _∷_, _++_, append-assoc}
 use mathlib.Core.Path.{_≡_, refl, sym, _∙_, ap}
 use native.Mathlib.Omega.{arith}
-use lib.ListN.{length, take, set, replicate, length-append, length-take, length-map, length-replicate}
-use lib.Seq.{take-append-seam, take-append-add, take-take, take-all}
+use lib.ListN.{length, take, set, replicate, length-replicate}
+use lib.Seq.{take-append-add, take-all}
 use Rattle.table.specs.Limits.{mostRows}
-use Rattle.table.specs.Rows.{noRow, Contents, rowsOf, contents}
-use Rattle.machine.specs.declared.Frame.{Frame}
-use Rattle.machine.specs.Limits.{classPlaces, bestPlaces}
-use Rattle.machine.specs.State.{Instant, never, at, zeroFrame, zeroLast, waiting, instantOf, instantsOf, State, view}
-use Rattle.recordbytes.specs.Port.{placed, tableFrom, lastOf, portFrom}
-use Rattle.recordbytes.specs.Fits.{Placed}
+use Rattle.table.specs.Rows.{noRow, Contents, contents}
+use Rattle.table.proofs.Laws.{rows-are}
+use Rattle.machine.specs.State.{State, view, placed, Placed}
+use Rattle.machine.proofs.Placing.{placed-length, placed-shows, view-back}
+use Rattle.recordbytes.specs.Port.{tableFrom, portFrom}
 
 module _ {X : Type 0} (z : X) where
-  -- every place is filled
-  pub placed-length : (n : ℕ) (xs : List X) → length (placed n z xs) ≡ n
-  unfolding placed
-  placed-length n xs = rw (length-take, length-append, length-replicate) (omega arith)
-
-  -- the things that are placed
-  pub placed-shows : (n : ℕ) (xs : List X) → length xs ≤ n → take (length xs) (placed n z xs) ≡ xs
-  unfolding placed
-  placed-shows n xs h = take-take (length xs) n (xs ++ replicate n z) h ∙ take-append-seam xs (replicate n z)
-
   -- nothing is placed
   pub placed-none : (n : ℕ) → replicate n z ≡ placed n z []
   unfolding placed
@@ -54,45 +43,15 @@ module _ {X : Type 0} (z : X) where
       rw (more, put-behind xs x n n h) (sym (ap (take n) (append-assoc xs (x ∷ []) (replicate n z))))
 
 -- ---- the parts of what was made of parts
-waiting-back : (n : ℕ) (q : List Frame) → length q ≤ n → waiting (length q) (placed n zeroFrame q) ≡ q
-waiting-back n q h =
-    let none : length q - n ≡ 0 = omega arith in
-    rw (placed-length zeroFrame n q, none, append-nil) (placed-shows zeroFrame n q h)
-
 pub contents-back : (t : Contents) → length (t .rows) ≤ mostRows → contents (tableFrom t) ≡ t
-unfolding tableFrom rowsOf
-contents-back t h =
-    let none : length (t .rows) - mostRows ≡ 0 = omega arith in
-    rw (placed-length noRow mostRows (t .rows), none, append-nil, placed-shows noRow mostRows (t .rows) h) refl
-
-instants-back : (is : List Instant) → map instantOf (map lastOf is) ≡ is
-instants-back [] = refl
-instants-back (never ∷ is) = ap (λ (l : List Instant). never ∷ l) (instants-back is)
-instants-back (at k ∷ is) = ap (λ (l : List Instant). at k ∷ l) (instants-back is)
-
-last-back : (is : List Instant) → length is ≤ mostRows → instantsOf (length is) (placed mostRows zeroLast (map lastOf is)) ≡ is
-last-back is h =
-    let n : length (map lastOf is) ≡ length is = length-map is lastOf in
-    let none : length is - mostRows ≡ 0 = omega arith in
-    let front : take (length is) (placed mostRows zeroLast (map lastOf is)) ≡ map lastOf is = rw n at (placed-shows zeroLast mostRows (map lastOf is) (omega arith)) in
-    rw (placed-length zeroLast mostRows (map lastOf is), none, append-nil, front) (instants-back is)
-
-count-of : (t : Contents) → tableFrom t .count ≡ length (t .rows)
 unfolding tableFrom
-count-of t = refl
+contents-back t h =
+    let few : length (t .rows) ≤ length (placed mostRows noRow (t .rows)) = rw (placed-length noRow mostRows (t .rows)) h in
+    rw (rows-are (tableFrom t) few, placed-shows noRow mostRows (t .rows) h) refl
 
-pub view-back : (s : State) → Placed s → view (portFrom s) ≡ s
-unfolding view portFrom
-view-back s h =
-    rw (
-      contents-back (s .table) (h .rows),
-      waiting-back classPlaces (s .a) (h .a),
-      waiting-back classPlaces (s .b) (h .b),
-      waiting-back bestPlaces (s .best) (h .best),
-      count-of (s .table) ∙ sym (h .last),
-      last-back (s .last) (omega (arith, h .last, h .rows)),
-    )
-    refl
+pub view-from : (s : State) → Placed s → view (portFrom s) ≡ s
+unfolding portFrom
+view-from s h = view-back (tableFrom (s .table)) s (contents-back (s .table) (h .rows)) h
 
 -- ---- places as reading a file fills them
 take-zeros : {X : Type 0} (z : X) (n m : ℕ) → n ≤ m → take n (replicate m z) ≡ replicate n z

@@ -14,12 +14,12 @@ use Rattle.machine.specs.declared.Frame.{Frame}
 use Rattle.machine.specs.declared.Wire.{Wire}
 use Rattle.machine.specs.declared.Wire.the-variants.{Free, Sending}
 use Rattle.machine.specs.Limits.{classPlaces, bestPlaces}
-use Rattle.machine.specs.State.{Instant, never, at, State}
+use Rattle.machine.specs.State.{Instant, never, at, State, Placed}
 use Rattle.words.specs.Words.{Every, Word, Bytes, wordAt, stored, spread}
 use Rattle.words.proofs.Laws.{stored-length, Held, held-stored, held-same, word-small, Agree, agree-more, stored-agrees, held-agrees, spread-length, spread-agrees, HeldEach, each-agrees, spread-held, each-same, gathered-back, gathered-length, gathered-every}
 use Rattle.recordbytes.specs.Layout.{version, headStart, countPlace, rowsStart, clockStart, queueaStart, queuebStart, bestStart, lastStart, wireStart, rowWidth, frameWidth, lastWidth, recordSize}
 use Rattle.recordbytes.specs.Record.{headWords, rowWords, numberWords, frameWords, lastWords, wireWords, tableOver, queueOver, recordOver, rowAt, frameAt, instantAt, queueAt, stateOf, headFits, rowFits, frameFits, lastFits, each, queueFits, recordTests, isRecord}
-use Rattle.recordbytes.specs.Fits.{RowFits, FrameFits, InstantFits, Placed, Numbered, Fits}
+use Rattle.recordbytes.specs.Fits.{RowFits, FrameFits, InstantFits, Numbered, Fits}
 use Rattle.recordbytes.proofs.Lists.{true-each, both, held-each, each-held}
 use Rattle.recordbytes.proofs.Tested.{tests, head}
 use Rattle.recordbytes.proofs.Fields as field

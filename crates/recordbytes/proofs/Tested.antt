@@ -9,11 +9,11 @@ use borrow.Author.Tests.{leb-true, eqb-true}
 use Rattle.table.specs.Limits.{mostRows}
 use Rattle.table.proofs.Laws.{and-true}
 use Rattle.machine.specs.Limits.{classPlaces, bestPlaces}
+use Rattle.machine.specs.State.{Placed}
 use Rattle.words.specs.Words.{wordAt}
 use Rattle.words.proofs.Laws.{gathered-length}
 use Rattle.recordbytes.specs.Layout.{version, headStart, countPlace, rowsStart, queueaStart, queuebStart, bestStart, lastStart, rowWidth, frameWidth, lastWidth, recordSize}
 use Rattle.recordbytes.specs.Record.{rowAt, frameAt, instantAt, stateOf, fitsU16, fitsU32, headFits, queueFits, recordTests, isRecord}
-use Rattle.recordbytes.specs.Fits.{Placed}
 use Rattle.recordbytes.proofs.Lists.{Each, each-true}
 
 pub record Head (s : List ℕ) : Type 0 where

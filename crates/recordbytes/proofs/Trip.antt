@@ -15,7 +15,7 @@ use Rattle.recordbytes.specs.Record.{headWords, rowWords, numberWords, f
 use Rattle.recordbytes.specs.RoundTrip.{ReadingWritten, WritingRead, ReadFits, BehindKept, SameParts}
 use Rattle.recordbytes.proofs.Stands.{last-wide, wire-wide, queue-length, written-stands, stands-read, stands-record, stands-again, named-stands, named-numbered}
 use Rattle.recordbytes.proofs.Tested.{long, named-placed}
-use Rattle.recordbytes.proofs.Placing.{view-back}
+use Rattle.recordbytes.proofs.Placing.{view-from}
 
 -- ---- how many bytes there are, and those behind the record
 queue-behind : (k places : ℕ) (q : List Frame) (s : List ℕ) (i : ℕ) → 8 * (k + 1 + frameWidth * places) ≤ i → getD (queueOver k places q s) i 0 ≡ getD s i 0
@@ -67,4 +67,4 @@ pub read-fits : ReadFits
 read-fits s b e = record { placed = named-placed s e; numbered = named-numbered s b }
 
 pub same-parts : SameParts
-same-parts p h = view-back p h
+same-parts p h = view-from p h

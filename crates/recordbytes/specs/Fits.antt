@@ -1,16 +1,12 @@
--- The ports that a record can hold: as many things as there are places at most, and every number fits its field.
-use Prim.Native.Nat.{_≤_, _<_, _^_}
-use mathlib.Core.Path.{_≡_}
-use lib.ListN.{length}
+-- The ports that a record can hold: their parts find their places, and every number fits its field.
+use Prim.Native.Nat.{_<_, _^_}
 use lib.Signed.{mag}
 use Rattle.table.specs.declared.Row.{Row}
 use Rattle.table.specs.declared.Header.{Header}
-use Rattle.table.specs.Limits.{mostRows}
 use Rattle.machine.specs.declared.Frame.{Frame}
 use Rattle.machine.specs.declared.Wire.{Wire}
 use Rattle.machine.specs.declared.Wire.the-variants.{Free, Sending}
-use Rattle.machine.specs.Limits.{classPlaces, bestPlaces}
-use Rattle.machine.specs.State.{Instant, never, at, State}
+use Rattle.machine.specs.State.{Instant, never, at, State, Placed}
 use Rattle.words.specs.Words.{Every, Word}
 
 pub record HeaderFits (h : Header) : Type 0 where
@@ -35,14 +31,6 @@ InstantFits (at k) = Word k
 abbrev pub WireFits : Wire → Type 0
 WireFits Free = Unit {0}
 WireFits (Sending f left) = FrameFits f × (left < 2 ^ 32)
-
--- As many things as there are places at most, and an instant or none for each row.
-pub record Placed (s : State) : Type 0 where
-  pub rows : length (s .table .rows) ≤ mostRows
-  pub a : length (s .a) ≤ classPlaces
-  pub b : length (s .b) ≤ classPlaces
-  pub best : length (s .best) ≤ bestPlaces
-  pub last : length (s .last) ≡ length (s .table .rows)
 
 -- A credit is −2 ^ 63 to 2 ^ 63 − 1: `mag` of −(n + 1) is n.
 pub record Numbered (s : State) : Type 0 where

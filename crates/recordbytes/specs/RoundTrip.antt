@@ -4,11 +4,11 @@ use mathlib.Core.Bool.{true}
 use mathlib.Core.List.{List}
 use mathlib.Core.Path.{_≡_}
 use lib.ListN.{length, getD}
-use Rattle.machine.specs.State.{State, view}
+use Rattle.machine.specs.State.{State, view, Placed}
 use Rattle.words.specs.Words.{Bytes}
 use Rattle.recordbytes.specs.Layout.{recordSize}
 use Rattle.recordbytes.specs.Record.{recordOver, stateOf, isRecord}
-use Rattle.recordbytes.specs.Fits.{Placed, Fits}
+use Rattle.recordbytes.specs.Fits.{Fits}
 use Rattle.recordbytes.specs.Port.{portFrom}
 
 -- A port written over any bytes that are long enough is read back: so for every port that fits, whatever the bytes held.

@@ -18,13 +18,13 @@ use Rattle.machine.specs.declared.BestQueue.{BestQueue}
 use Rattle.machine.specs.declared.Last.{Last}
 use Rattle.machine.specs.declared.Port.{Port}
 use Rattle.machine.specs.Limits.{classPlaces, bestPlaces}
-use Rattle.machine.specs.State.{zeroFrame, zeroLast}
+use Rattle.machine.specs.State.{zeroFrame, zeroLast, placed, lastOf, portOf}
 use Rattle.words.specs.Words.{wordAt, gathered}
 use Rattle.words.proofs.Laws.{gathered-length, gathered-none, gathered-next, gathered-map}
 use Rattle.recordbytes.specs.declared.Reading.{Reading}
 use Rattle.recordbytes.specs.Layout.{countPlace, rowsStart, clockStart, queueaStart, queuebStart, bestStart, lastStart, wireStart, rowWidth, lastWidth}
 use Rattle.recordbytes.specs.Record.{u16Of, u32Of, signedOf, rowAt, frameAt, instantAt, queueAt, wireAt, stateOf, isRecord}
-use Rattle.recordbytes.specs.Port.{placed, tableFrom, lastOf, portFrom, nothing, readRecord}
+use Rattle.recordbytes.specs.Port.{tableFrom, portFrom, nothing, readRecord}
 use Rattle.recordbytes.proofs.Laws.{placed-none, placed-next}
 
 module _ (s : List ℕ) (k : ℕ) where
@@ -69,7 +69,7 @@ lasts-named s n e = e ∙ rw (gathered-map lastOf (instantAt s) lastWidth lastSt
 pub port-named : (s : List ℕ) {t : Table} {w : ℕ} {x y : ℤ} {a b : Queue} {q : BestQueue} {ls : List Last} {v : Wire} → t ≡ tableFrom (stateOf s .table) → a ≡ record { count = length (queueAt s queueaStart); frames = placed classPlaces zeroFrame (queueAt s queueaStart) } → b ≡ record { count = length (queueAt s queuebStart); frames = placed classPlaces zeroFrame (queueAt s queuebStart) } → q ≡ record { count = length (queueAt s bestStart); frames = placed bestPlaces zeroFrame (queueAt s bestStart) }
     → ls ≡ placed mostRows zeroLast (map lastOf (gathered (instantAt s) lastWidth lastStart (t .count))) → v ≡ wireAt s wireStart → w ≡ wordAt s clockStart → x ≡ signedOf (wordAt s (clockStart + 1)) → y ≡ signedOf (wordAt s (clockStart + 2))
     → _≡_ {A = Port} (record { table = t; clock = w; credita = x; creditb = y; a = a; b = b; best = q; last = ls; wire = v }) (portFrom (stateOf s))
-unfolding portFrom stateOf
+unfolding portFrom portOf stateOf
 port-named s {t = t} et ea eb eq el ev ew ex ey =
     let n : t .count ≡ wordAt s countPlace = ap (λ (x : Table). x .count) et ∙ count-named s in
     let lasts = rw n at el in
@@ -84,5 +84,5 @@ unfolding readRecord
 no-record s e f = rw (e, f) refl
 
 pub zeros-named : _≡_ {A = Port} (record { table = record { header = record { idlea = 0; idleb = 0; payload = 0 }; count = 0; rows = replicate mostRows noRow }; clock = 0; credita = pos 0; creditb = pos 0; a = record { count = 0; frames = replicate classPlaces zeroFrame }; b = record { count = 0; frames = replicate classPlaces zeroFrame }; best = record { count = 0; frames = replicate bestPlaces zeroFrame }; last = replicate mostRows zeroLast; wire = Free }) (portFrom nothing)
-unfolding portFrom tableFrom placed
+unfolding portFrom portOf tableFrom placed
 zeros-named = refl

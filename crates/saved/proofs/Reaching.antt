@@ -1,12 +1,11 @@
 -- A port kept as bytes, and the list of calls that has led to it.
-use Prim.Native.Nat.{ℕ, _-_, _≤_, _<_}
+use Prim.Native.Nat.{ℕ, _≤_, _<_}
 use mathlib.Core.Bool.{true, false}
 use mathlib.Core.List.{List, [], _∷_}
 use mathlib.Core.Path.{_≡_, refl, sym, _∙_, ap}
 use native.Mathlib.Omega.{arith}
-use lib.ListN.{length, length-append, length-take, length-drop, length-map, length-replicate}
-use borrow.Author.Tests.{le-leb, lt-leb, leb-true}
-use Rattle.table.specs.declared.Class.the-variants.{A, B}
+use lib.ListN.{length, length-append, length-drop, length-replicate}
+use borrow.Author.Tests.{le-leb, lt-leb}
 use Rattle.table.specs.declared.Table.{Table}
 use Rattle.table.specs.Limits.{mostRows}
 use Rattle.table.specs.Rows.{noRow, rowsOf, contents}
@@ -16,22 +15,20 @@ use Rattle.planner.proofs.Laws.{accepted-if}
 use Rattle.tablefile.specs.Reading.{readFile}
 use Rattle.tablefile.proofs.Laws.{read-filled}
 use Rattle.machine.specs.declared.Port.{Port}
-use Rattle.machine.specs.Limits.{noMark, bestPlaces}
-use Rattle.machine.specs.State.{State, fresh, instantsOf, view}
-use Rattle.machine.specs.Record.{bestSound}
+use Rattle.machine.specs.Limits.{noMark}
+use Rattle.machine.specs.State.{State, fresh, view, portOf, Placed}
 use Rattle.machine.specs.Calls as machines
 use Rattle.machine.specs.Calls.{Call, Answer, taken, passed, denied, answer, Keeps, Gives}
 use Rattle.machine.specs.Run.{Event, event, Run, called}
-use Rattle.machine.proofs.Theorem.{every-run, run-sound}
-use Rattle.machine.proofs.FromSound.{clauses, is-accepted}
+use Rattle.machine.proofs.Theorem.{every-run, run-placed}
 use Rattle.words.specs.Words.{flat, wordBytes}
 use Rattle.codes.specs.Codes.{codeOf, over, fileCheck}
 use Rattle.codes.proofs.Laws.{opened-accepted}
 use Rattle.recordbytes.specs.declared.Reading.{Reading}
 use Rattle.recordbytes.specs.Layout.{recordSize}
 use Rattle.recordbytes.specs.Record.{recordOver, stateOf, isRecord}
-use Rattle.recordbytes.specs.Fits.{Placed, Numbered}
-use Rattle.recordbytes.specs.Port.{placed, tableFrom, portFrom, readRecord}
+use Rattle.recordbytes.specs.Fits.{Numbered}
+use Rattle.recordbytes.specs.Port.{tableFrom, portFrom, readRecord}
 use Rattle.recordbytes.proofs.Laws.{named-placed, long, placed-are, contents-back}
 use Rattle.recordbytes.proofs.Trip.{reading-written, same-parts}
 use Rattle.recordwrite.specs.Written.{written}
@@ -47,26 +44,9 @@ use Rattle.saved.specs.Saved.{Reached, openCheck, cleared, OpenedInto, c
 not-both : {X : Type 0} → true ≡ false → X
 not-both e = let z : _≡_ {A = ℕ} 0 1 = cc in absurd (omega arith)
 
--- ---- a port that a list has led to fits in a record
-last-length : (p : Port) → length (view p .last) ≡ length (view p .table .rows)
-unfolding view
-last-length p =
-    let n : length (instantsOf (p .table .count) (p .last)) ≡ p .table .count = rw (length-append, length-map, length-take, length-replicate) (omega arith) in
-    n ∙ sym (rows-length (p .table))
-
-best-few : (s : State) → bestSound s ≡ true → length (s .best) ≤ bestPlaces
-unfolding bestSound
-best-few s e = leb-true (length (s .best)) bestPlaces e
-
-run-placed : {t : Table} {es : List Event} {p : Port} → Run t es p → Placed (view p)
-run-placed {t} {es} {p} r =
-    let c = clauses (view p) (run-sound r) in
-    let d = every-run t es p r in
-    record { rows = is-accepted (view p) c .ranges .most; a = d .places A; b = d .places B; best = best-few (view p) (c .best); last = last-length p }
-
 -- a record with the same parts and the same table
 table-from : (s : State) → portFrom s .table ≡ tableFrom (s .table)
-unfolding portFrom
+unfolding portFrom portOf
 table-from s = refl
 
 view-table : (p : Port) → view p .table ≡ contents (p .table)

@@ -1,14 +1,15 @@
 -- Reading fills unused rows with zeros: the places of a table that was read are its rows, and zeros behind them.
 use Prim.Native.Nat.{ℕ, zero, suc, _-_, _≤_}
-use mathlib.Core.List.{List, _++_, append-nil}
+use mathlib.Core.List.{List, _++_}
 use mathlib.Core.Path.{_≡_, refl, sym, _∙_, ap}
 use native.Mathlib.Omega.{arith}
-use lib.ListN.{length, take, replicate, length-append, length-replicate}
+use lib.ListN.{length, replicate, length-append, length-replicate}
 use lib.Seq.{take-at}
 use Rattle.table.specs.declared.Table.{Table}
 use Rattle.table.specs.Limits.{mostRows}
 use Rattle.table.specs.Rows.{noRow, rowsOf}
 use Rattle.table.specs.Checks.{accepted}
+use Rattle.table.proofs.Laws.{rows-are}
 use Rattle.tablefile.specs.Layout.{headerSize}
 use Rattle.tablefile.specs.Reading.{rowCount, behindRow, rowsFrom, tableOf, readFile}
 
@@ -23,14 +24,12 @@ pub record Filled (t : Table) : Type 0 where
   pub rows : t .rows ≡ rowsOf t ++ replicate (mostRows - length (rowsOf t)) noRow
 
 filled : (s : List ℕ) → rowCount s ≤ mostRows → Filled (tableOf s (rowsFrom (rowCount s) s headerSize))
-unfolding rowsOf
 filled s few =
     let rs = rowsFrom (rowCount s) s headerSize in
     let n : length rs ≡ rowCount s = rows-count (rowCount s) s headerSize in
     let zeros = replicate (mostRows - length rs) noRow in
     let places : length (rs ++ zeros) ≡ mostRows = rw (length-append, length-replicate) (omega arith) in
-    let none : rowCount s - length (rs ++ zeros) ≡ 0 = omega arith in
-    let own : take (rowCount s) (rs ++ zeros) ++ replicate (rowCount s - length (rs ++ zeros)) noRow ≡ rs = rw (none, append-nil) (take-at rs zeros (rowCount s) n) in
+    let own : rowsOf (tableOf s rs) ≡ rs = rows-are (tableOf s rs) (omega arith) ∙ take-at rs zeros (rowCount s) n in
     record { count = sym n ∙ sym (ap length own); rows = rw own refl }
 
 pub read-filled : (s : List ℕ) → readFile s .outcome ≡ accepted → readFile s .table .count ≤ mostRows → Filled (readFile s .table)

@@ -13,7 +13,8 @@ use Rattle.callbytes.specs.Calls.{answerBytes, fronted, isDenied}
 use Rattle.turns.specs.declared.FilePort.{FilePort}
 use Rattle.turns.specs.declared.Stepped.{Stepped}
 
--- The port of a table file: a code, 0 only if nothing is refused, and the fresh port of the table that was read.
+-- The port of a table file: a code, 0 only if nothing is refused, and the fresh port of the table that was read. Of the port's record the places that belong to
+-- no part are free.
 pub record FileOpened (file : List ℕ) (r : FilePort) : Type 0 where
   pub code : r .code ≡ codeOf (fileCheck file)
   pub told : r .code ≡ 0 → fileCheck file ≡ accepted

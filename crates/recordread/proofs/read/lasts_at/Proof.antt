@@ -5,12 +5,10 @@ use native.Mathlib.Omega.{arith}
 use lib.ListN.{length, length-set}
 use denote.Ref.{now}
 use Rattle.words.specs.Words.{gathered}
-use Rattle.recordbytes.specs.Port.{placed}
 use Rattle.table.specs.Limits.{mostRows}
-use Rattle.machine.specs.State.{zeroLast}
+use Rattle.machine.specs.State.{zeroLast, placed, lastOf}
 use Rattle.recordbytes.specs.Layout.{lastStart, lastWidth}
 use Rattle.recordbytes.specs.Record.{instantAt}
-use Rattle.recordbytes.specs.Port.{lastOf}
 use mathlib.Core.List.{List}
 use Rattle.machine.specs.declared.Last.{Last}
 use Rattle.recordread.proofs.Named.{none-gathered, one-more, lasts-named}

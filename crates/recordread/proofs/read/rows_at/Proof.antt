@@ -5,7 +5,7 @@ use native.Mathlib.Omega.{arith}
 use lib.ListN.{length, length-set}
 use denote.Ref.{now}
 use Rattle.words.specs.Words.{gathered}
-use Rattle.recordbytes.specs.Port.{placed}
+use Rattle.machine.specs.State.{placed}
 use Rattle.table.specs.Limits.{mostRows}
 use Rattle.table.specs.Rows.{noRow}
 use Rattle.recordbytes.specs.Layout.{rowsStart, rowWidth}
