@@ -1,9 +1,9 @@
 -- Outcomes, and checks in the order given, of which the first that fails decides.
 use Prim.Native.Nat.{ℕ, suc}
 use mathlib.Core.Bool.{Bool, true, false, cond}
-use mathlib.Core.List.{List, [], _∷_}
+use mathlib.Core.List.{List, [], _∷_, _++_}
 use lib.Dec.{leb}
-use lib.ListN.{length}
+use lib.ListN.{length, drop}
 use Rattle.table.specs.declared.Class.{Class}
 use Rattle.table.specs.declared.Class.the-variants.{A, B}
 use Rattle.table.specs.declared.Row.{Row}
@@ -60,3 +60,12 @@ abbrev pub first : List Outcome → Outcome
 first [] = accepted
 first (accepted ∷ rest) = first rest
 first (refused n p ∷ rest) = refused n p
+
+-- Something new, or at a refusal what there was.
+abbrev pub unlessRefused : {X : Type 0} → Outcome → X → X → X
+unlessRefused accepted new old = new
+unlessRefused (refused n p) new old = old
+
+-- Bytes at the front of a buffer, and its own bytes behind them; at a refusal every byte as it was.
+abbrev pub over : Outcome → List ℕ → List ℕ → List ℕ
+over o bytes buffer = unlessRefused o (bytes ++ drop (length bytes) buffer) buffer
