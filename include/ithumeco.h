@@ -3,8 +3,8 @@
  * libithumeco.a. docs/ENCODING.md says what the bytes mean, and docs/GUIDE.md
  * what each refusal says.
  *
- * Every buffer is a pointer and a length, of any length, and the buffers of one
- * call do not overlap. Where a function returns anything but 0 nothing is
+ * Every buffer is a pointer, not NULL, and a length, of any length, and the
+ * buffers of one call do not overlap. Where a function returns anything but 0 nothing is
  * written; otherwise bytes behind what is written keep their values. A function
  * keeps nothing between calls, so it may be called from several threads at a
  * time, on different buffers.
@@ -27,6 +27,11 @@
 
 /* The largest table file, in bytes. */
 #define ITHUMECO_MOST_FILE 367
+
+/* Where a record has its clock and the credits of the two classes: words. */
+#define ITHUMECO_CLOCK_WORD 133
+#define ITHUMECO_CREDIT_A_WORD 134
+#define ITHUMECO_CREDIT_B_WORD 135
 
 /* The most byte-times of one advance, and the clock's last value. */
 #define ITHUMECO_MOST_ADVANCE 65535

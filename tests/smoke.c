@@ -40,8 +40,32 @@ static void files(void)
     expect("bound of row 2", ithumeco_get_word(bounds, 2), 4856);
     expect("no row 3", ithumeco_get_word(bounds, 3), 0);
     expect("bounds, too short", ithumeco_bounds(file, size, bounds, sizeof bounds - 1), ITHUMECO_TOO_SHORT);
-    expect("a file that ends", ITHUMECO_NUMBER(ithumeco_bounds(file, size - 1, bounds, sizeof bounds)), ITHUMECO_FILE_ENDS);
-    expect("its place", ITHUMECO_PLACE(ithumeco_bounds(file, size - 1, bounds, sizeof bounds)), 26);
+}
+
+/* The specimen with some of its bytes changed, and of another size: its refusal. */
+static void refused(const char *what, size_t at, const char *bytes, size_t count, size_t new_size, uint64_t number, uint64_t place)
+{
+    static uint8_t other[512], bounds[ITHUMECO_BOUNDS_SIZE];
+    memset(other, 0, sizeof other);
+    memcpy(other, file, size);
+    memcpy(other + at, bytes, count);
+    uint64_t code = ithumeco_bounds(other, new_size, bounds, sizeof bounds);
+    expect(what, ITHUMECO_NUMBER(code), number);
+    expect("its place", ITHUMECO_PLACE(code), place);
+}
+
+static void refused_files(void)
+{
+    refused("a file that ends", 0, "", 0, size - 1, ITHUMECO_FILE_ENDS, 26);
+    refused("other letters", 3, "9", 1, size, ITHUMECO_LETTERS, 0);
+    refused("no rows", 14, "\0", 1, size, ITHUMECO_ROW_COUNT, 14);
+    refused("map bit 3", 15, "\11", 1, size, ITHUMECO_MAP_BIT, 15);
+    refused("a payload of 1,756", 12, "\6", 1, size, ITHUMECO_VALUE, 12);
+    refused("a stated default", 16, "\0\52", 2, size, ITHUMECO_STATES_DEFAULT, 16);
+    refused("a byte too many", 0, "", 0, size + 1, ITHUMECO_TRAILING, 28);
+    refused("no slope for B", 8, "\0\0\0\0", 4, size, ITHUMECO_SLOPES, 0);
+    refused("shares above the slope of A", 4, "\0\0\143\377", 4, size, ITHUMECO_SHARES, 0);
+    refused("a deadline below the bound", 21, "\0\0\14\105", 4, size, ITHUMECO_DEADLINE, 1);
 }
 
 /* 32 rows that state every field: no file is larger. */
@@ -78,7 +102,9 @@ static void runs(void)
         expect("one by one", made(list[i][0], list[i][1], list[i][2]), 0);
         expect("the answer differs", memcmp(answer, answers + i * ITHUMECO_ANSWER_SIZE, sizeof answer) != 0, 0);
     }
-    expect("clock", ithumeco_get_word(record, 133), 100);
+    expect("clock", ithumeco_get_word(record, ITHUMECO_CLOCK_WORD), 100);
+    expect("credit of A", ithumeco_get_word(record, ITHUMECO_CREDIT_A_WORD), (uint64_t)-75000000);
+    expect("credit of B", ithumeco_get_word(record, ITHUMECO_CREDIT_B_WORD), 0);
     expect("open, too short", ithumeco_open(file, size, record, sizeof record - 1), ITHUMECO_TOO_SHORT);
 }
 
@@ -99,7 +125,7 @@ static void refusals(void)
     expect("a call that names none", ithumeco_call(record, sizeof record, call, sizeof call - 1, answer, sizeof answer), ITHUMECO_UNREADABLE_CALL);
 
     expect("open", ithumeco_open(file, size, record, sizeof record), 0);
-    ithumeco_put_word(record, 133, ITHUMECO_LAST_CLOCK);
+    ithumeco_put_word(record, ITHUMECO_CLOCK_WORD, ITHUMECO_LAST_CLOCK);
     expect("the clock's last value", made(ITHUMECO_ADVANCE, 0, 0), 0);
     expect("past it", made(ITHUMECO_ADVANCE, 1, 0), ITHUMECO_PAST_LAST_CLOCK);
     ithumeco_put_word(record, 0, ITHUMECO_VERSION + 1);
@@ -129,6 +155,7 @@ int main(void)
     size = fread(file, 1, sizeof file, in);
     fclose(in);
     files();
+    refused_files();
     largest_file();
     runs();
     refusals();

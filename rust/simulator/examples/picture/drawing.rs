@@ -181,11 +181,14 @@ pub fn picture() -> Result<String, Refusal> {
     let title = format!("A frame near its bound: it ends after {age} of {bound} byte-times");
     let mut svg = Svg::default();
     svg.heading(36.0, 18, &title);
-    let words = format!("Every row of {NAME} is offered a frame at 0, row {row} last.");
+    let words = format!(
+        "Every row of {NAME} is offered a frame at 0, row {row} last. \
+         One byte-time before its turn a best-effort frame begins."
+    );
     svg.tell("start", MARGIN, 60.0, &words);
     let words = format!(
-        "One byte-time before its turn a best-effort frame begins. \
-         So row {row}'s frame waits for all that its bound counts but the last term."
+        "So row {row}'s frame waits for all that its bound counts \
+         but that byte-time and the last term."
     );
     svg.tell("start", MARGIN, 78.0, &words);
     draw_guides(&mut svg, &run);
