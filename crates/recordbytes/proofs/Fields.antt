@@ -18,6 +18,7 @@ use Rattle.machine.specs.declared.Wire.the-variants.{Free, Sending}
 use Rattle.machine.specs.State.{Instant, never, at}
 use Rattle.words.specs.Words.{Every, Word, Bytes, wordAt}
 use Rattle.words.proofs.Laws.{Held, word-small}
+use Rattle.recordbytes.specs.Layout.{frameWidth}
 use Rattle.recordbytes.specs.Record.{classWord, rowWords, signedWord, frameWords, lastWords, wireWords, u16Of, u32Of, classOf, signedOf, rowAt, frameAt, instantAt, wireAt, fitsU16, fitsU32, fitsMark, rowFits, frameFits, lastFits, wireFits}
 use Rattle.recordbytes.specs.Fits.{RowFits, FrameFits, InstantFits, WireFits}
 use Rattle.recordbytes.proofs.Lists.{both}
@@ -187,8 +188,8 @@ module _ (s : List ℕ) where
   wire-words (Sending x left) f = let g = frame-words x (f .0) in (omega arith, (g .0, (g .1 .0, (g .1 .1 .0, (omega (arith, f .1), tt)))))
 
   -- where the words of a frame on the wire stand
-  on-wire : (x : Frame) (left k : ℕ) → Held s k (wireWords (Sending x left)) → Held s (k + 1) (frameWords x) × (wordAt s (k + 4) ≡ left)
-  on-wire x left k h = let e : k + 1 + 1 + 1 + 1 ≡ k + 4 = omega arith in ((h .1 .0, (h .1 .1 .0, (h .1 .1 .1 .0, tt))), rw e at (h .1 .1 .1 .1 .0))
+  on-wire : (x : Frame) (left k : ℕ) → Held s k (wireWords (Sending x left)) → Held s (k + 1) (frameWords x) × (wordAt s (k + 1 + frameWidth) ≡ left)
+  on-wire x left k h = let e : k + 1 + 1 + 1 + 1 ≡ k + 1 + frameWidth = omega arith in ((h .1 .0, (h .1 .1 .0, (h .1 .1 .1 .0, tt))), rw e at (h .1 .1 .1 .1 .0))
 
   pub wire-back : (w : Wire) (k : ℕ) → WireFits w → Held s k (wireWords w) → wireAt s k ≡ w
   unfolding wireAt
@@ -204,18 +205,18 @@ module _ (s : List ℕ) where
   unfolding wireFits wireAt
   wire-same k e = go (eqb (wordAt s k) 1) refl e
     where
-      go : (b : Bool) → eqb (wordAt s k) 1 ≡ b → cond b (frameFits s (k + 1) && fitsU32 (wordAt s (k + 4))) (eqb (wordAt s k) 0) ≡ true → Held s k (wireWords (cond b (Sending (frameAt s (k + 1)) (u32Of (wordAt s (k + 4)))) Free))
+      go : (b : Bool) → eqb (wordAt s k) 1 ≡ b → cond b (frameFits s (k + 1) && fitsU32 (wordAt s (k + 1 + frameWidth))) (eqb (wordAt s k) 0) ≡ true → Held s k (wireWords (cond b (Sending (frameAt s (k + 1)) (u32Of (wordAt s (k + 1 + frameWidth)))) Free))
       go true z f =
-          let p = and-true (frameFits s (k + 1)) (fitsU32 (wordAt s (k + 4))) f in
+          let p = and-true (frameFits s (k + 1)) (fitsU32 (wordAt s (k + 1 + frameWidth))) f in
           let q = frame-same (k + 1) (p .0) in
-          let i : k + 1 + 1 + 1 + 1 ≡ k + 4 = omega arith in
-          (eqb-true (wordAt s k) 1 z, (q .0, (q .1 .0, (q .1 .1 .0, (rw i (u32-same (wordAt s (k + 4)) (p .1)), tt)))))
+          let i : k + 1 + 1 + 1 + 1 ≡ k + 1 + frameWidth = omega arith in
+          (eqb-true (wordAt s k) 1 z, (q .0, (q .1 .0, (q .1 .1 .0, (rw i (u32-same (wordAt s (k + 1 + frameWidth)) (p .1)), tt)))))
       go false z f = (eqb-true (wordAt s k) 0 f, tt)
 
   pub wire-small : Bytes s → (k : ℕ) → WireFits (wireAt s k)
   unfolding wireAt
   wire-small b k = go (eqb (wordAt s k) 1)
     where
-      go : (c : Bool) → WireFits (cond c (Sending (frameAt s (k + 1)) (u32Of (wordAt s (k + 4)))) Free)
-      go true = (frame-small b (k + 1), u32-small (wordAt s (k + 4)))
+      go : (c : Bool) → WireFits (cond c (Sending (frameAt s (k + 1)) (u32Of (wordAt s (k + 1 + frameWidth)))) Free)
+      go true = (frame-small b (k + 1), u32-small (wordAt s (k + 1 + frameWidth)))
       go false = tt

@@ -17,7 +17,7 @@ use Rattle.machine.specs.Limits.{classPlaces, bestPlaces}
 use Rattle.machine.specs.State.{Instant, never, at, State, Placed}
 use Rattle.words.specs.Words.{Every, Word, Bytes, wordAt, stored, spread}
 use Rattle.words.proofs.Laws.{stored-length, Held, held-stored, held-same, word-small, Agree, agree-more, stored-agrees, held-agrees, spread-length, spread-agrees, HeldEach, each-agrees, spread-held, each-same, gathered-back, gathered-length, gathered-every}
-use Rattle.recordbytes.specs.Layout.{version, headStart, countPlace, rowsStart, clockStart, queueaStart, queuebStart, bestStart, lastStart, wireStart, rowWidth, frameWidth, lastWidth, recordSize}
+use Rattle.recordbytes.specs.Layout.{version, headStart, rowsStart, clockStart, queueaStart, queuebStart, bestStart, lastStart, wireStart, idleaPlace, idlebPlace, payloadPlace, countPlace, rowWidth, frameWidth, lastWidth, wireWidth, recordSize}
 use Rattle.recordbytes.specs.Record.{headWords, rowWords, numberWords, frameWords, lastWords, wireWords, tableOver, queueOver, recordOver, rowAt, frameAt, instantAt, queueAt, stateOf, headFits, rowFits, frameFits, lastFits, each, queueFits, recordTests, isRecord}
 use Rattle.recordbytes.specs.Fits.{RowFits, FrameFits, InstantFits, Numbered, Fits}
 use Rattle.recordbytes.proofs.Lists.{true-each, both, held-each, each-held}
@@ -44,7 +44,7 @@ pub last-wide : (i : Instant) → length (lastWords i) ≤ lastWidth
 last-wide never = omega arith
 last-wide (at k) = omega arith
 
-pub wire-wide : (w : Wire) → length (wireWords w) ≤ 5
+pub wire-wide : (w : Wire) → length (wireWords w) ≤ wireWidth
 wire-wide Free = omega arith
 wire-wide (Sending f left) = omega arith
 
@@ -295,7 +295,7 @@ module _ (s : List ℕ) (b : Bytes s) where
       let t = tests s e in
       let h = head s e in
       record {
-        head = (h .version, (field.u32-same (wordAt s 1) (h .idlea), (field.u32-same (wordAt s 2) (h .idleb), (field.u16-same (wordAt s 3) (h .payload), (sym (gathered-length (rowAt s) rowWidth rowsStart (wordAt s countPlace)), tt)))));
+        head = (h .version, (field.u32-same (wordAt s idleaPlace) (h .idlea), (field.u32-same (wordAt s idlebPlace) (h .idleb), (field.u16-same (wordAt s payloadPlace) (h .payload), (sym (gathered-length (rowAt s) rowWidth rowsStart (wordAt s countPlace)), tt)))));
         rows = each-held rowWords rowWidth s (rowFits s) (rowAt s) (field.row-same s) rowsStart (wordAt s countPlace) (t .1 .1 .0);
         numbers = (refl, (field.signed-same (wordAt s (clockStart + 1)) (word-small s b (clockStart + 1)), (field.signed-same (wordAt s (clockStart + 2)) (word-small s b (clockStart + 2)), tt)));
         a = queue-named queueaStart classPlaces (t .1 .1 .1 .0);

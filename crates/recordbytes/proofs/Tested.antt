@@ -12,24 +12,24 @@ use Rattle.machine.specs.Limits.{classPlaces, bestPlaces}
 use Rattle.machine.specs.State.{Placed}
 use Rattle.words.specs.Words.{wordAt}
 use Rattle.words.proofs.Laws.{gathered-length}
-use Rattle.recordbytes.specs.Layout.{version, headStart, countPlace, rowsStart, queueaStart, queuebStart, bestStart, lastStart, rowWidth, frameWidth, lastWidth, recordSize}
+use Rattle.recordbytes.specs.Layout.{version, headStart, rowsStart, queueaStart, queuebStart, bestStart, lastStart, idleaPlace, idlebPlace, payloadPlace, countPlace, rowWidth, frameWidth, lastWidth, recordSize}
 use Rattle.recordbytes.specs.Record.{rowAt, frameAt, instantAt, stateOf, fitsU16, fitsU32, headFits, queueFits, recordTests, isRecord}
 use Rattle.recordbytes.proofs.Lists.{Each, each-true}
 
 pub record Head (s : List ℕ) : Type 0 where
   pub version : wordAt s headStart ≡ version
   pub rows : wordAt s countPlace ≤ mostRows
-  pub idlea : fitsU32 (wordAt s 1) ≡ true
-  pub idleb : fitsU32 (wordAt s 2) ≡ true
-  pub payload : fitsU16 (wordAt s 3) ≡ true
+  pub idlea : fitsU32 (wordAt s idleaPlace) ≡ true
+  pub idleb : fitsU32 (wordAt s idlebPlace) ≡ true
+  pub payload : fitsU16 (wordAt s payloadPlace) ≡ true
 
 pub head-words : (s : List ℕ) → headFits s ≡ true → Head s
 unfolding headFits
 head-words s e =
     let p = and-true (eqb (wordAt s headStart) version && leb (wordAt s countPlace) mostRows) _ e in
     let q = and-true (eqb (wordAt s headStart) version) (leb (wordAt s countPlace) mostRows) (p .0) in
-    let r = and-true (fitsU32 (wordAt s 1) && fitsU32 (wordAt s 2)) (fitsU16 (wordAt s 3)) (p .1) in
-    let i = and-true (fitsU32 (wordAt s 1)) (fitsU32 (wordAt s 2)) (r .0) in
+    let r = and-true (fitsU32 (wordAt s idleaPlace) && fitsU32 (wordAt s idlebPlace)) (fitsU16 (wordAt s payloadPlace)) (p .1) in
+    let i = and-true (fitsU32 (wordAt s idleaPlace)) (fitsU32 (wordAt s idlebPlace)) (r .0) in
     record { version = eqb-true (wordAt s headStart) version (q .0); rows = leb-true (wordAt s countPlace) mostRows (q .1); idlea = i .0; idleb = i .1; payload = r .1 }
 
 pub queue-count : (s : List ℕ) (k places : ℕ) → queueFits s k places ≡ true → wordAt s k ≤ places

@@ -8,43 +8,23 @@
 --   330 to 378   best-effort queue: count, 16 frames
 --   379 to 442   32 last instants: mark (1 if there is one, else 0), instant
 --   443 to 447   wire: 0 when free; 1, the frame and its bytes left
-use Prim.Native.Nat.{ℕ}
+use Prim.Native.Nat.{ℕ, _+_, _*_}
+use Rattle.table.specs.Limits.{mostRows}
+use Rattle.machine.specs.Limits.{classPlaces, bestPlaces}
 
 -- The version is above every idle slope, with which records began before they had one.
 abbrev pub version : ℕ
 version = 1000001
 
--- The first word of each part, and of the header the row count's.
-abbrev pub headStart : ℕ
-headStart = 0
+-- The words of the header, a row, the clock with the credits, a frame, an instant and the wire. A queue has a count before its frames.
+abbrev pub headWidth : ℕ
+headWidth = 5
 
-abbrev pub countPlace : ℕ
-countPlace = 4
-
-abbrev pub rowsStart : ℕ
-rowsStart = 5
-
-abbrev pub clockStart : ℕ
-clockStart = 133
-
-abbrev pub queueaStart : ℕ
-queueaStart = 136
-
-abbrev pub queuebStart : ℕ
-queuebStart = 233
-
-abbrev pub bestStart : ℕ
-bestStart = 330
-
-abbrev pub lastStart : ℕ
-lastStart = 379
-
-abbrev pub wireStart : ℕ
-wireStart = 443
-
--- The words of a row, a frame and an instant.
 abbrev pub rowWidth : ℕ
 rowWidth = 4
+
+abbrev pub numbersWidth : ℕ
+numbersWidth = 3
 
 abbrev pub frameWidth : ℕ
 frameWidth = 3
@@ -52,9 +32,50 @@ frameWidth = 3
 abbrev pub lastWidth : ℕ
 lastWidth = 2
 
+abbrev pub wireWidth : ℕ
+wireWidth = 1 + frameWidth + 1
+
+-- The first word of each part: behind the part before it.
+abbrev pub headStart : ℕ
+headStart = 0
+
+abbrev pub rowsStart : ℕ
+rowsStart = headStart + headWidth
+
+abbrev pub clockStart : ℕ
+clockStart = rowsStart + rowWidth * mostRows
+
+abbrev pub queueaStart : ℕ
+queueaStart = clockStart + numbersWidth
+
+abbrev pub queuebStart : ℕ
+queuebStart = queueaStart + 1 + frameWidth * classPlaces
+
+abbrev pub bestStart : ℕ
+bestStart = queuebStart + 1 + frameWidth * classPlaces
+
+abbrev pub lastStart : ℕ
+lastStart = bestStart + 1 + frameWidth * bestPlaces
+
+abbrev pub wireStart : ℕ
+wireStart = lastStart + lastWidth * mostRows
+
+-- The header's words behind the version: the idle slopes of A and of B, the best-effort payload, the row count.
+abbrev pub idleaPlace : ℕ
+idleaPlace = headStart + 1
+
+abbrev pub idlebPlace : ℕ
+idlebPlace = headStart + 2
+
+abbrev pub payloadPlace : ℕ
+payloadPlace = headStart + 3
+
+abbrev pub countPlace : ℕ
+countPlace = headStart + 4
+
 -- The words and the bytes of a record.
 abbrev pub recordWidth : ℕ
-recordWidth = 448
+recordWidth = wireStart + wireWidth
 
 abbrev pub recordSize : ℕ
-recordSize = 3584
+recordSize = 8 * recordWidth

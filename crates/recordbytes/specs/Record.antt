@@ -18,7 +18,7 @@ use Rattle.machine.specs.Limits.{classPlaces, bestPlaces}
 use Rattle.machine.specs.State.{Instant, never, at, State}
 use Rattle.machine.specs.Record.{allTrue}
 use Rattle.words.specs.Words.{wordAt, stored, spread, gathered}
-use Rattle.recordbytes.specs.Layout.{version, headStart, countPlace, rowsStart, clockStart, queueaStart, queuebStart, bestStart, lastStart, wireStart, rowWidth, frameWidth, lastWidth, recordSize}
+use Rattle.recordbytes.specs.Layout.{version, headStart, rowsStart, clockStart, queueaStart, queuebStart, bestStart, lastStart, wireStart, idleaPlace, idlebPlace, payloadPlace, countPlace, rowWidth, frameWidth, lastWidth, recordSize}
 
 -- ---- the words of a port's parts
 abbrev pub headWords : Contents → List ℕ
@@ -91,7 +91,7 @@ abbrev pub instantAt : List ℕ → ℕ → Instant
 instantAt s k = cond (eqb (wordAt s k) 1) (at (wordAt s (k + 1))) never
 
 unfoldable pub wireAt : List ℕ → ℕ → Wire
-wireAt s k = cond (eqb (wordAt s k) 1) (Sending (frameAt s (k + 1)) (u32Of (wordAt s (k + 4)))) Free
+wireAt s k = cond (eqb (wordAt s k) 1) (Sending (frameAt s (k + 1)) (u32Of (wordAt s (k + 1 + frameWidth)))) Free
 
 abbrev pub queueAt : List ℕ → ℕ → List Frame
 queueAt s k = gathered (frameAt s) frameWidth (k + 1) (wordAt s k)
@@ -101,7 +101,7 @@ stateOf s =
     record {
       table =
           record {
-            header = record { idlea = u32Of (wordAt s 1); idleb = u32Of (wordAt s 2); payload = u16Of (wordAt s 3) };
+            header = record { idlea = u32Of (wordAt s idleaPlace); idleb = u32Of (wordAt s idlebPlace); payload = u16Of (wordAt s payloadPlace) };
             rows = gathered (rowAt s) rowWidth rowsStart (wordAt s countPlace);
           };
       clock = wordAt s clockStart;
@@ -127,7 +127,7 @@ abbrev pub fitsMark : ℕ → Bool
 fitsMark w = leb w 1
 
 unfoldable pub headFits : List ℕ → Bool
-headFits s = (eqb (wordAt s headStart) version && leb (wordAt s countPlace) mostRows) && ((fitsU32 (wordAt s 1) && fitsU32 (wordAt s 2)) && fitsU16 (wordAt s 3))
+headFits s = (eqb (wordAt s headStart) version && leb (wordAt s countPlace) mostRows) && ((fitsU32 (wordAt s idleaPlace) && fitsU32 (wordAt s idlebPlace)) && fitsU16 (wordAt s payloadPlace))
 
 abbrev pub rowFits : List ℕ → ℕ → Bool
 rowFits s k = (fitsMark (wordAt s k) && fitsU16 (wordAt s (k + 1))) && (fitsU32 (wordAt s (k + 2)) && fitsU32 (wordAt s (k + 3)))
@@ -139,7 +139,7 @@ abbrev pub lastFits : List ℕ → ℕ → Bool
 lastFits s k = fitsMark (wordAt s k)
 
 unfoldable pub wireFits : List ℕ → ℕ → Bool
-wireFits s k = cond (eqb (wordAt s k) 1) (frameFits s (k + 1) && fitsU32 (wordAt s (k + 4))) (eqb (wordAt s k) 0)
+wireFits s k = cond (eqb (wordAt s k) 1) (frameFits s (k + 1) && fitsU32 (wordAt s (k + 1 + frameWidth))) (eqb (wordAt s k) 0)
 
 -- n things, the first at the word of number k.
 unfoldable pub each : (ℕ → Bool) → ℕ → ℕ → ℕ → Bool

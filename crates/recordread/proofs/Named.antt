@@ -22,7 +22,7 @@ use Rattle.machine.specs.State.{zeroFrame, zeroLast, placed, lastOf, portOf}
 use Rattle.words.specs.Words.{wordAt, gathered}
 use Rattle.words.proofs.Laws.{gathered-length, gathered-none, gathered-next, gathered-map}
 use Rattle.recordbytes.specs.declared.Reading.{Reading}
-use Rattle.recordbytes.specs.Layout.{countPlace, rowsStart, clockStart, queueaStart, queuebStart, bestStart, lastStart, wireStart, rowWidth, lastWidth}
+use Rattle.recordbytes.specs.Layout.{rowsStart, clockStart, queueaStart, queuebStart, bestStart, lastStart, wireStart, idleaPlace, idlebPlace, payloadPlace, countPlace, rowWidth, frameWidth, lastWidth}
 use Rattle.recordbytes.specs.Record.{u16Of, u32Of, signedOf, rowAt, frameAt, instantAt, queueAt, wireAt, stateOf, isRecord}
 use Rattle.recordbytes.specs.Port.{tableFrom, portFrom, nothing, readRecord}
 use Rattle.recordbytes.proofs.Laws.{placed-none, placed-next}
@@ -34,7 +34,7 @@ module _ (s : List ℕ) (k : ℕ) where
   pub last-unknown : (wordAt s k ≡ 1 → ⊥) → zeroLast ≡ lastOf (instantAt s k)
   last-unknown h = rw (ne-eqb (wordAt s k) 1 h) refl
 
-  pub sending-named : wordAt s k ≡ 1 → Sending (frameAt s (k + 1)) (u32Of (wordAt s (k + 4))) ≡ wireAt s k
+  pub sending-named : wordAt s k ≡ 1 → Sending (frameAt s (k + 1)) (u32Of (wordAt s (k + 1 + frameWidth))) ≡ wireAt s k
   unfolding wireAt
   sending-named e = rw (eq-eqb (wordAt s k) 1 e) refl
 
@@ -54,7 +54,7 @@ module _ {X : Type 0} (z : X) (n : ℕ) (f : ℕ → X) (size k : ℕ) where
       rw (e, g, gathered-next f size k i) (rw l at p)
 
 -- ---- the parts
-pub table-named : (s : List ℕ) {w a b c : ℕ} {rows : List Row} → w ≡ wordAt s countPlace → rows ≡ placed mostRows noRow (gathered (rowAt s) rowWidth rowsStart w) → a ≡ u32Of (wordAt s 1) → b ≡ u32Of (wordAt s 2) → c ≡ u16Of (wordAt s 3)
+pub table-named : (s : List ℕ) {w a b c : ℕ} {rows : List Row} → w ≡ wordAt s countPlace → rows ≡ placed mostRows noRow (gathered (rowAt s) rowWidth rowsStart w) → a ≡ u32Of (wordAt s idleaPlace) → b ≡ u32Of (wordAt s idlebPlace) → c ≡ u16Of (wordAt s payloadPlace)
     → _≡_ {A = Table} (record { header = record { idlea = a; idleb = b; payload = c }; count = w; rows = rows }) (tableFrom (stateOf s .table))
 unfolding tableFrom stateOf
 table-named s e f ea eb ec = rw (f, ea, eb, ec, e, gathered-length (rowAt s) rowWidth rowsStart (wordAt s countPlace)) refl

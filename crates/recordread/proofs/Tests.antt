@@ -12,7 +12,7 @@ use Rattle.recordbytes.specs.Layout.{countPlace, rowsStart, queueaStart, queueb
 use Rattle.recordbytes.specs.Record.{fitsU32, headFits, rowFits, frameFits, lastFits, wireFits, each, queueFits, isRecord}
 
 module _ (s : List ℕ) (k : ℕ) where
-  pub wire-sending : wordAt s k ≡ 1 → frameFits s (k + 1) && fitsU32 (wordAt s (k + 4)) ≡ wireFits s k
+  pub wire-sending : wordAt s k ≡ 1 → frameFits s (k + 1) && fitsU32 (wordAt s (k + 1 + frameWidth)) ≡ wireFits s k
   unfolding wireFits
   wire-sending e = rw (eq-eqb (wordAt s k) 1 e) refl
 

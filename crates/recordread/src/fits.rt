@@ -8,11 +8,17 @@ use machine::BEST_PLACES;
 use machine::CLASS_PLACES;
 use recordbytes::BEST_START;
 use recordbytes::COUNT_PLACE;
+use recordbytes::FRAME_WIDTH;
 use recordbytes::HEAD_START;
+use recordbytes::IDLEA_PLACE;
+use recordbytes::IDLEB_PLACE;
 use recordbytes::LAST_START;
+use recordbytes::LAST_WIDTH;
+use recordbytes::PAYLOAD_PLACE;
 use recordbytes::QUEUEA_START;
 use recordbytes::QUEUEB_START;
 use recordbytes::RECORD_SIZE;
+use recordbytes::ROW_WIDTH;
 use recordbytes::ROWS_START;
 use recordbytes::VERSION;
 use recordbytes::WIRE_START;
@@ -28,8 +34,8 @@ fn head_fits(s: &[u8]) -> bool
     ensures { λ r. ⌜ r ≡ headFits (now (s .entry)) ⌝ }
 {
     let known = (word(s, HEAD_START) == VERSION) & (word(s, COUNT_PLACE) <= ROWS as u64);
-    let slopes = (word(s, 1) <= U32) & (word(s, 2) <= U32);
-    known & (slopes & (word(s, 3) <= U16))
+    let slopes = (word(s, IDLEA_PLACE) <= U32) & (word(s, IDLEB_PLACE) <= U32);
+    known & (slopes & (word(s, PAYLOAD_PLACE) <= U16))
 }
 
 fn row_fits(s: &[u8], k: usize) -> bool
@@ -58,7 +64,7 @@ fn wire_fits(s: &[u8]) -> bool
 {
     let mark = word(s, WIRE_START);
     if mark == 1 {
-        return frame_fits(s, WIRE_START + 1) & (word(s, WIRE_START + 4) <= U32);
+        return frame_fits(s, WIRE_START + 1) & (word(s, WIRE_START + 1 + FRAME_WIDTH) <= U32);
     }
     mark == 0
 }
@@ -69,7 +75,7 @@ fn rows_fit(s: &[u8], n: usize) -> bool
 {
     let mut i: usize = 0;
     while i < n {
-        if !row_fits(s, ROWS_START + 4 * i) {
+        if !row_fits(s, ROWS_START + ROW_WIDTH * i) {
             return false;
         }
         i += 1;
@@ -83,7 +89,7 @@ fn frames_fit(s: &[u8], k: usize, n: usize) -> bool
 {
     let mut i: usize = 0;
     while i < n {
-        if !frame_fits(s, k + 3 * i) {
+        if !frame_fits(s, k + FRAME_WIDTH * i) {
             return false;
         }
         i += 1;
@@ -97,7 +103,7 @@ fn lasts_fit(s: &[u8], n: usize) -> bool
 {
     let mut i: usize = 0;
     while i < n {
-        if !last_fits(s, LAST_START + 2 * i) {
+        if !last_fits(s, LAST_START + LAST_WIDTH * i) {
             return false;
         }
         i += 1;

@@ -9,7 +9,7 @@ ghost use Rattle.table.specs.Rows.{noRow};
 ghost use Rattle.machine.specs.Limits.{classPlaces, bestPlaces};
 ghost use Rattle.machine.specs.State.{zeroFrame, zeroLast, placed, lastOf};
 ghost use Rattle.words.specs.Words.{wordAt, gathered};
-ghost use Rattle.recordbytes.specs.Layout.{rowsStart, lastStart, wireStart, rowWidth, frameWidth, lastWidth, recordWidth};
+ghost use Rattle.recordbytes.specs.Layout.{rowsStart, lastStart, wireStart, countPlace, rowWidth, frameWidth, lastWidth, recordWidth};
 ghost use Rattle.recordbytes.specs.Record.{u16Of, u32Of, classOf, signedOf, rowAt, frameAt, instantAt, queueAt, wireAt, stateOf, isRecord};
 ghost use Rattle.recordbytes.specs.Port.{tableFrom, portFrom, nothing, readRecord};
 use crate::fits::is_record;
@@ -24,9 +24,15 @@ use machine::Wire;
 use recordbytes::BEST_START;
 use recordbytes::CLOCK_START;
 use recordbytes::COUNT_PLACE;
+use recordbytes::FRAME_WIDTH;
+use recordbytes::IDLEA_PLACE;
+use recordbytes::IDLEB_PLACE;
 use recordbytes::LAST_START;
+use recordbytes::LAST_WIDTH;
+use recordbytes::PAYLOAD_PLACE;
 use recordbytes::QUEUEA_START;
 use recordbytes::QUEUEB_START;
+use recordbytes::ROW_WIDTH;
 use recordbytes::ROWS_START;
 use recordbytes::Reading;
 use recordbytes::WIRE_START;
@@ -145,22 +151,22 @@ fn rows_at(s: &[u8], n: usize) -> [Row; ROWS]
     let mut rows = [zero_row(); ROWS];
     let mut i: usize = 0;
     while i < n {
-        rows[i] = row_at(s, ROWS_START + 4 * i);
+        rows[i] = row_at(s, ROWS_START + ROW_WIDTH * i);
         i += 1;
     }
     rows
 }
 
 fn table_at(s: &[u8]) -> Table
-    requires { ⌜ wordAt (now s) 4 ≤ mostRows ⌝ }
+    requires { ⌜ wordAt (now s) countPlace ≤ mostRows ⌝ }
     ensures { λ r. ⌜ r ≡ tableFrom (stateOf (now (s .entry)) .table) ⌝ }
 {
     let count = word(s, COUNT_PLACE) as usize;
     let rows = rows_at(s, count);
     let header = Header {
-        idlea: u32_of(word(s, 1)),
-        idleb: u32_of(word(s, 2)),
-        payload: u16_of(word(s, 3)),
+        idlea: u32_of(word(s, IDLEA_PLACE)),
+        idleb: u32_of(word(s, IDLEB_PLACE)),
+        payload: u16_of(word(s, PAYLOAD_PLACE)),
     };
     Table {
         header,
@@ -178,7 +184,7 @@ fn frames_at(s: &[u8], k: usize, n: usize) -> [Frame; CLASS_PLACES]
     let mut frames = [zero_frame(); CLASS_PLACES];
     let mut i: usize = 0;
     while i < n {
-        frames[i] = frame_at(s, k + 3 * i);
+        frames[i] = frame_at(s, k + FRAME_WIDTH * i);
         i += 1;
     }
     frames
@@ -193,7 +199,7 @@ fn best_frames_at(s: &[u8], k: usize, n: usize) -> [Frame; BEST_PLACES]
     let mut frames = [zero_frame(); BEST_PLACES];
     let mut i: usize = 0;
     while i < n {
-        frames[i] = frame_at(s, k + 3 * i);
+        frames[i] = frame_at(s, k + FRAME_WIDTH * i);
         i += 1;
     }
     frames
@@ -227,7 +233,7 @@ fn lasts_at(s: &[u8], n: usize) -> [Last; ROWS]
     let mut lasts = [zero_last(); ROWS];
     let mut i: usize = 0;
     while i < n {
-        lasts[i] = last_at(s, LAST_START + 2 * i);
+        lasts[i] = last_at(s, LAST_START + LAST_WIDTH * i);
         i += 1;
     }
     lasts
@@ -238,7 +244,7 @@ fn wire_at(s: &[u8]) -> Wire
 {
     if word(s, WIRE_START) == 1 {
         let frame = frame_at(s, WIRE_START + 1);
-        let left = u32_of(word(s, WIRE_START + 4));
+        let left = u32_of(word(s, WIRE_START + 1 + FRAME_WIDTH));
         return Wire::Sending(frame, left);
     }
     Wire::Free

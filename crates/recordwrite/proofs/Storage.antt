@@ -23,7 +23,7 @@ use Rattle.machine.specs.State.{never, noFrame, waiting, instantOf, instantsOf,
 use Rattle.machine.proofs.Places.{waiting-length}
 use Rattle.words.specs.Words.{stored, spread}
 use Rattle.words.proofs.Laws.{more, two, four}
-use Rattle.recordbytes.specs.Layout.{version, headStart, rowsStart, clockStart, queueaStart, queuebStart, bestStart, lastStart, wireStart, rowWidth, frameWidth, lastWidth, recordSize}
+use Rattle.recordbytes.specs.Layout.{version, headStart, rowsStart, clockStart, queueaStart, queuebStart, bestStart, lastStart, wireStart, idleaPlace, idlebPlace, payloadPlace, countPlace, rowWidth, frameWidth, lastWidth, recordSize}
 use Rattle.recordbytes.specs.Record.{classWord, signedWord, headWords, rowWords, frameWords, lastWords, wireWords, tableOver, queueOver, recordOver}
 use Rattle.recordwrite.specs.Written.{written}
 
@@ -40,10 +40,10 @@ module _ (s : List ℕ) (k : ℕ) where
   pub free-put : {w : Wire} {t : List ℕ} → w ≡ Free → t ≡ stored s k (0 ∷ []) → t ≡ stored s k (wireWords w)
   free-put z e = rw z e
 
-  pub sending-put : {w : Wire} {x : Frame} {left : ℕ} {l t u : List ℕ} → w ≡ Sending x left → l ≡ stored s k (1 ∷ []) → t ≡ stored l (k + 1) (frameWords x) → u ≡ stored t (k + 4) (left ∷ []) → u ≡ stored s k (wireWords w)
-  sending-put {x = x} {left = left} z e f g = rw z (more s k (1 ∷ frameWords x) (left ∷ []) (more s k (1 ∷ []) (frameWords x) e refl f) refl g)
+  pub sending-put : {w : Wire} {x : Frame} {left : ℕ} {l t u : List ℕ} → w ≡ Sending x left → l ≡ stored s k (1 ∷ []) → t ≡ stored l (k + 1) (frameWords x) → u ≡ stored t (k + 1 + frameWidth) (left ∷ []) → u ≡ stored s k (wireWords w)
+  sending-put {x = x} {left = left} z e f g = rw z (more s k (1 ∷ frameWords x) (left ∷ []) (more s k (1 ∷ []) (frameWords x) e refl f) (omega arith) g)
 
-pub head-put : (s : List ℕ) (x : Table) {l t u v z : List ℕ} → l ≡ stored s headStart (version ∷ []) → t ≡ stored l (headStart + 1) (x .header .idlea ∷ []) → u ≡ stored t (headStart + 2) (x .header .idleb ∷ []) → v ≡ stored u (headStart + 3) (x .header .payload ∷ []) → z ≡ stored v (headStart + 4) (x .count ∷ []) → z ≡ stored s headStart (headWords (contents x))
+pub head-put : (s : List ℕ) (x : Table) {l t u v z : List ℕ} → l ≡ stored s headStart (version ∷ []) → t ≡ stored l idleaPlace (x .header .idlea ∷ []) → u ≡ stored t idlebPlace (x .header .idleb ∷ []) → v ≡ stored u payloadPlace (x .header .payload ∷ []) → z ≡ stored v countPlace (x .count ∷ []) → z ≡ stored s headStart (headWords (contents x))
 head-put s x e f g h i =
     let words = version ∷ x .header .idlea ∷ x .header .idleb ∷ x .header .payload ∷ [] in
     rw (rows-length x) (more s headStart words (x .count ∷ []) (four s headStart version (x .header .idlea) (x .header .idleb) (x .header .payload) e f g h) refl i)

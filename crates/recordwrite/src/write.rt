@@ -21,11 +21,18 @@ use machine::Queue;
 use machine::Wire;
 use recordbytes::BEST_START;
 use recordbytes::CLOCK_START;
+use recordbytes::COUNT_PLACE;
+use recordbytes::FRAME_WIDTH;
 use recordbytes::HEAD_START;
+use recordbytes::IDLEA_PLACE;
+use recordbytes::IDLEB_PLACE;
 use recordbytes::LAST_START;
+use recordbytes::LAST_WIDTH;
+use recordbytes::PAYLOAD_PLACE;
 use recordbytes::QUEUEA_START;
 use recordbytes::QUEUEB_START;
 use recordbytes::RECORD_SIZE;
+use recordbytes::ROW_WIDTH;
 use recordbytes::ROWS_START;
 use recordbytes::VERSION;
 use recordbytes::WIRE_START;
@@ -74,10 +81,10 @@ fn put_head(out: &mut [u8], t: Table)
     ensures { λ _. ⌜ now (out .exit) ≡ stored (now (out .entry)) headStart (headWords (contents t)) ⌝ }
 {
     put_word(out, HEAD_START, VERSION);
-    put_word(out, HEAD_START + 1, t.header.idlea as u64);
-    put_word(out, HEAD_START + 2, t.header.idleb as u64);
-    put_word(out, HEAD_START + 3, t.header.payload as u64);
-    put_word(out, HEAD_START + 4, t.count as u64);
+    put_word(out, IDLEA_PLACE, t.header.idlea as u64);
+    put_word(out, IDLEB_PLACE, t.header.idleb as u64);
+    put_word(out, PAYLOAD_PLACE, t.header.payload as u64);
+    put_word(out, COUNT_PLACE, t.count as u64);
 }
 
 fn put_row(out: &mut [u8], k: usize, row: Row)
@@ -98,7 +105,7 @@ fn put_rows(out: &mut [u8], t: Table)
     let n = placed(t.count, ROWS);
     let mut i: usize = 0;
     while i < n {
-        put_row(out, ROWS_START + 4 * i, t.rows[i]);
+        put_row(out, ROWS_START + ROW_WIDTH * i, t.rows[i]);
         i += 1;
     }
 }
@@ -138,7 +145,7 @@ fn put_queue(out: &mut [u8], k: usize, q: Queue)
     let n = placed(q.count, CLASS_PLACES);
     let mut i: usize = 0;
     while i < n {
-        put_frame(out, k + 1 + 3 * i, q.frames[i]);
+        put_frame(out, k + 1 + FRAME_WIDTH * i, q.frames[i]);
         i += 1;
     }
 }
@@ -151,7 +158,7 @@ fn put_best(out: &mut [u8], k: usize, q: BestQueue)
     let n = placed(q.count, BEST_PLACES);
     let mut i: usize = 0;
     while i < n {
-        put_frame(out, k + 1 + 3 * i, q.frames[i]);
+        put_frame(out, k + 1 + FRAME_WIDTH * i, q.frames[i]);
         i += 1;
     }
 }
@@ -177,7 +184,7 @@ fn put_lasts(out: &mut [u8], lasts: [Last; ROWS], count: usize)
     let n = placed(count, ROWS);
     let mut i: usize = 0;
     while i < n {
-        put_last(out, LAST_START + 2 * i, lasts[i]);
+        put_last(out, LAST_START + LAST_WIDTH * i, lasts[i]);
         i += 1;
     }
 }
@@ -193,7 +200,7 @@ fn put_wire(out: &mut [u8], w: Wire)
         Wire::Sending(frame, left) => {
             put_word(out, WIRE_START, 1);
             put_frame(out, WIRE_START + 1, frame);
-            put_word(out, WIRE_START + 4, left as u64);
+            put_word(out, WIRE_START + 1 + FRAME_WIDTH, left as u64);
         }
     }
 }

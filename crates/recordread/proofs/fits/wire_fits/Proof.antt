@@ -17,6 +17,9 @@ frame-fits-requires c κs = search needs
 add-word : tie.Need-add-word
 add-word c = search needs
 
+add-word-2 : tie.Need-add-word-2
+add-word-2 c = search needs
+
 word-requires-2 : tie.Need-word-requires-2
 word-requires-2 c κs = search needs
 
@@ -34,6 +37,7 @@ wire-fits-spec =
     add-frame-fits
     frame-fits-requires
     add-word
+    add-word-2
     word-requires-2
     returns
     returns-2)

@@ -17,6 +17,9 @@ frame-at-requires c κs = search needs
 add-word : tie.Need-add-word
 add-word c = search needs
 
+add-word-2 : tie.Need-add-word-2
+add-word-2 c = search needs
+
 word-requires-2 : tie.Need-word-requires-2
 word-requires-2 c κs = search needs
 
@@ -37,6 +40,7 @@ wire-at-spec =
     add-frame-at
     frame-at-requires
     add-word
+    add-word-2
     word-requires-2
     u32-of-requires
     returns

@@ -8,17 +8,11 @@ use Rattle.recordwrite.proofs.write.put_head.Tie as tie
 put-word-requires : tie.Need-put-word-requires
 put-word-requires c κs = search needs
 
-add-put-word : tie.Need-add-put-word
-add-put-word c = search needs
-
 cast-put-word : tie.Need-cast-put-word
 cast-put-word c = search needs
 
 put-word-requires-2 : tie.Need-put-word-requires-2
 put-word-requires-2 c κs = search needs
-
-add-put-word-2 : tie.Need-add-put-word-2
-add-put-word-2 c = search needs
 
 cast-put-word-2 : tie.Need-cast-put-word-2
 cast-put-word-2 c = search needs
@@ -26,17 +20,11 @@ cast-put-word-2 c = search needs
 put-word-requires-3 : tie.Need-put-word-requires-3
 put-word-requires-3 c κs = search needs
 
-add-put-word-3 : tie.Need-add-put-word-3
-add-put-word-3 c = search needs
-
 cast-put-word-3 : tie.Need-cast-put-word-3
 cast-put-word-3 c = search needs
 
 put-word-requires-4 : tie.Need-put-word-requires-4
 put-word-requires-4 c κs = search needs
-
-add-put-word-4 : tie.Need-add-put-word-4
-add-put-word-4 c = search needs
 
 put-word-requires-5 : tie.Need-put-word-requires-5
 put-word-requires-5 c κs = search needs
@@ -52,16 +40,12 @@ put-head-spec =
     tie.close
     (tie.spec
     put-word-requires
-    add-put-word
     cast-put-word
     put-word-requires-2
-    add-put-word-2
     cast-put-word-2
     put-word-requires-3
-    add-put-word-3
     cast-put-word-3
     put-word-requires-4
-    add-put-word-4
     put-word-requires-5
     same-length
     returns)

@@ -4,10 +4,10 @@ use mathlib.Core.Path.{_≡_, refl, _∙_, ap}
 use native.Mathlib.Omega.{arith}
 use lib.ListN.{length, take}
 use denote.Ref.{now}
+use Rattle.table.specs.Limits.{mostRows}
+use Rattle.machine.proofs.Places.{last-places}
 use Rattle.words.specs.Words.{spread}
-use Rattle.words.proofs.Laws.{stored-length, spread-none, spread-next, array-places}
-use denote.Struct.Declared as Declared
-use Rattle.machine.proofs.Last.{the-type}
+use Rattle.words.proofs.Laws.{stored-length, spread-none, spread-next}
 use Rattle.recordbytes.specs.Layout.{lastStart, lastWidth}
 use Rattle.recordwrite.proofs.Storage.{instantWords, lasts-put}
 use Rattle.recordwrite.proofs.write.put_lasts.Statement.{statement}
@@ -51,9 +51,9 @@ loop-again c =
     let s = c .before .before .before .before .before .before .before .before .before in
     let l = c .before .before .before .before .before .before .loop in
     let p = c .before .before .put-last in
-    let long = array-places (Declared.row the-type) 32 (s .args .t2) _ (s .good .1 .0) in (
+    let long = last-places (s .args .t2) _ (s .good .1 .0) in (
       omega arith,
-      ap length (p .ensures) ∙ stored-length (l .out) (379 + 2 * l .i) _ ∙ l .inv .1,
+      ap length (p .ensures) ∙ stored-length (l .out) (lastStart + lastWidth * l .i) _ ∙ l .inv .1,
       spread-next instantWords lastWidth lastStart (s .args .t2) _ (l .i) _ (omega arith) (l .inv .2) (p .ensures),
     )
 
@@ -64,8 +64,8 @@ returns : tie.Need-returns Inv-loop μ-loop
 returns c =
     let s = c .before .before .before .before in
     let l = c .before .loop in
-    let all : l .i ≡ min (s .args .count) 32 = omega arith in
-    lasts-put (s .args .count) (s .args .t2) (now (s .args .out)) (array-places (Declared.row the-type) 32 (s .args .t2) _ (s .good .1 .0)) (rw all at (l .inv .2))
+    let all : l .i ≡ min (s .args .count) mostRows = omega arith in
+    lasts-put (s .args .count) (s .args .t2) (now (s .args .out)) (last-places (s .args .t2) _ (s .good .1 .0)) (rw all at (l .inv .2))
 
 pub put-lasts-spec : {M : Type 1} → statement M
 put-lasts-spec =

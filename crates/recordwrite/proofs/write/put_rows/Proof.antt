@@ -5,6 +5,7 @@ use native.Mathlib.Omega.{arith}
 use lib.ListN.{length, take}
 use Rattle.words.specs.Words.{spread}
 use Rattle.words.proofs.Laws.{stored-length, spread-none, spread-next}
+use Rattle.table.specs.Limits.{mostRows}
 use Rattle.table.proofs.Laws.{places}
 use Rattle.recordbytes.specs.Layout.{rowsStart, rowWidth}
 use Rattle.recordbytes.specs.Record.{rowWords}
@@ -52,7 +53,7 @@ loop-again c =
     let p = c .before .before .put-row in
     let long = places (s .args .t2) _ (s .good .1 .0) in (
       omega arith,
-      ap length (p .ensures) ∙ stored-length (l .out) (5 + 4 * l .i) _ ∙ l .inv .1,
+      ap length (p .ensures) ∙ stored-length (l .out) (rowsStart + rowWidth * l .i) _ ∙ l .inv .1,
       spread-next rowWords rowWidth rowsStart (s .args .t2 .rows) _ (l .i) _ (omega arith) (l .inv .2) (p .ensures),
     )
 
@@ -63,7 +64,7 @@ returns : tie.Need-returns Inv-loop μ-loop
 returns c =
     let s = c .before .before .before .before in
     let l = c .before .loop in
-    let all : l .i ≡ min (s .args .t2 .count) 32 = omega arith in
+    let all : l .i ≡ min (s .args .t2 .count) mostRows = omega arith in
     l .inv .2 ∙ rw (all, rows-placed (s .args .t2) (places (s .args .t2) _ (s .good .1 .0))) refl
 
 pub put-rows-spec : {M : Type 1} → statement M

@@ -25,6 +25,9 @@ put-frame-requires c κs = search needs
 add-put-word : tie.Need-add-put-word
 add-put-word c = search needs
 
+add-put-word-2 : tie.Need-add-put-word-2
+add-put-word-2 c = search needs
+
 cast-put-word : tie.Need-cast-put-word
 cast-put-word c = search needs
 
@@ -54,6 +57,7 @@ put-wire-spec =
     add-put-frame
     put-frame-requires
     add-put-word
+    add-put-word-2
     cast-put-word
     put-word-requires-3
     same-length
