@@ -1,8 +1,9 @@
 -- What holds of every element of a list, and tests of n things.
 use Prim.Native.Nat.{ℕ, zero, suc, _+_, _*_, _<_}
 use mathlib.Core.Bool.{Bool, true, false, _&&_}
+use mathlib.Core.Bool as bool
 use mathlib.Core.List.{List, [], _∷_, _++_, map}
-use mathlib.Core.Path.{_≡_, refl, _∙_}
+use mathlib.Core.Path.{_≡_, refl, sym, _∙_}
 use native.Mathlib.Numerals.{add-one}
 use native.Mathlib.Omega.{arith}
 use lib.ListN.{length, take, replicate}
@@ -47,25 +48,13 @@ pub both : {x y : Bool} → x ≡ true → y ≡ true → x && y ≡ true
 both e f = rw e f
 
 -- ---- tests of n things
-and-assoc : (x y z : Bool) → x && (y && z) ≡ (x && y) && z
-and-assoc true y z = refl
-and-assoc false y z = refl
-
-and-false : (x : Bool) → x && false ≡ false
-and-false true = refl
-and-false false = refl
-
-and-right : (x : Bool) → x && true ≡ x
-and-right true = refl
-and-right false = refl
-
 -- one thing more
 each-suc : (ok : ℕ → Bool) (size k i : ℕ) → each ok size k (suc i) ≡ (each ok size k i && ok (k + size * i))
 unfolding each
-each-suc ok size k zero = let z : k + size * 0 ≡ k = omega arith in rw z (and-right (ok k))
+each-suc ok size k zero = let z : k + size * 0 ≡ k = omega arith in rw z (bool.and-true (ok k))
 each-suc ok size k (suc i) =
     let z : k + size + size * i ≡ k + size * suc i = omega arith in
-    rw (each-suc ok size (k + size) i, z) (and-assoc (ok k) (each ok size (k + size) i) (ok (k + size * suc i)))
+    rw (each-suc ok size (k + size) i, z) (sym (bool.and-assoc (ok k) (each ok size (k + size) i) (ok (k + size * suc i))))
 
 pub each-none : (ok : ℕ → Bool) (size k : ℕ) → each ok size k 0 ≡ true
 unfolding each
@@ -81,7 +70,7 @@ each-fails ok size k i zero h e = absurd (omega arith)
 each-fails ok size k zero (suc n) h e = let z : k + size * 0 ≡ k = omega arith in rw (rw z at e) refl
 each-fails ok size k (suc i) (suc n) h e =
     let z : k + size * suc i ≡ k + size + size * i = omega arith in
-    rw (each-fails ok size (k + size) i n (omega arith) (rw z at e)) (and-false (ok k))
+    rw (each-fails ok size (k + size) i n (omega arith) (rw z at e)) (bool.and-false (ok k))
 
 module _ {X : Type 0} (f : X → List ℕ) (size : ℕ) (s : List ℕ) (ok : ℕ → Bool) where
   -- things that are held pass

@@ -1,6 +1,6 @@
 -- The tests of a record's words, from the words that they look at.
 use Prim.Native.Nat.{ℕ, _+_, _≤_, _<_}
-use mathlib.Core.Bool.{Bool, true, false, _&&_}
+use mathlib.Core.Bool.{true, false, _&&_, and-true}
 use mathlib.Core.List.{List}
 use mathlib.Core.Path.{_≡_, refl}
 use lib.Dec.{eqb}
@@ -29,10 +29,6 @@ module _ (s : List ℕ) (k : ℕ) where
     unfolding queueFits
     not-too-many h = rw (le-leb (wordAt s k) places h) refl
 
-and-right : (x : Bool) → x && true ≡ x
-and-right true = refl
-and-right false = refl
-
 module _ (s : List ℕ) where
   pub short : length s < recordSize → false ≡ isRecord s
   unfolding isRecord
@@ -46,4 +42,4 @@ module _ (s : List ℕ) where
     pub right-head : headFits s ≡ true
         → each (rowFits s) rowWidth rowsStart (wordAt s countPlace) && (queueFits s queueaStart classPlaces && (queueFits s queuebStart classPlaces && (queueFits s bestStart bestPlaces && (each (lastFits s) lastWidth lastStart (wordAt s countPlace) && wireFits s wireStart)))) ≡ isRecord s
     unfolding isRecord
-    right-head e = rw (le-leb recordSize (length s) long, e, and-right (wireFits s wireStart)) refl
+    right-head e = rw (le-leb recordSize (length s) long, e, and-true (wireFits s wireStart)) refl

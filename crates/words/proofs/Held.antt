@@ -10,7 +10,7 @@ use lib.ListN.{length, getD, take, drop, length-append, length-take, length-drop
 use lib.Seq.{getD-drop, drop-at, drop-drop, sets, sets-eq, getD-set-other, set-getD, length-sets}
 use Rattle.words.specs.Words.{Every, Bytes, Word, flat, halfBytes, wordBytes, halfAt, wordAt, stored}
 use Rattle.words.proofs.Fitting.{word-inside}
-use Rattle.words.proofs.Stored.{bytes-length, sets-append, stored-nothing, stored-append, stored-front}
+use Rattle.words.proofs.Stored.{word-length, bytes-length, sets-append, stored-nothing, stored-append, stored-front}
 
 abbrev pub Held : List ℕ → ℕ → List ℕ → Type 0
 Held s k [] = Unit {0}
@@ -37,10 +37,6 @@ word-back w rest h =
     let low : halfAt (halfBytes (w % 4294967296) ++ (halfBytes (w / 4294967296) ++ rest)) 0 ≡ w % 4294967296 = half-back (w % 4294967296) (halfBytes (w / 4294967296) ++ rest) (omega arith) in
     let high : halfAt (halfBytes (w / 4294967296) ++ rest) 0 ≡ w / 4294967296 = half-back (w / 4294967296) rest (omega arith) in
     rw (low, high) (omega arith)
-
-word-length : (w : ℕ) → length (wordBytes w) ≡ 8
-unfolding wordBytes
-word-length w = refl
 
 word-at : (s : List ℕ) (k w : ℕ) (rest : List ℕ) → Word w → 8 * (k + 1) ≤ length s → drop (8 * k) s ≡ wordBytes w ++ rest → wordAt s k ≡ w
 word-at s k w rest h room e =

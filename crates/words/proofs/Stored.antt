@@ -19,7 +19,7 @@ unfolding flat
 flat-length f size h [] = omega arith
 flat-length f size h (x ∷ xs) = rw (length-append (f x) (flat f xs), h x, flat-length f size h xs) (omega arith)
 
-word-length : (w : ℕ) → length (wordBytes w) ≡ 8
+pub word-length : (w : ℕ) → length (wordBytes w) ≡ 8
 unfolding wordBytes
 word-length w = refl
 
