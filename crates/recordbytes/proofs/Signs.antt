@@ -1,6 +1,6 @@
 -- Two's complement in a word of 64 bits.
 use Prim.Native.Nat.{ℕ, zero, suc, _-_, _≤_, _<_, _^_}
-use mathlib.Core.Bool.{true, false}
+use mathlib.Core.Bool.{true, false, false≢true}
 use mathlib.Core.Path.{_≡_, refl, sym, _∙_, ap}
 use native.Mathlib.Omega.{arith}
 use lib.Dec.{T}
@@ -38,9 +38,6 @@ module _ (w : ℕ) where
     pub negative : toZ w64 (ofZ w64 (negsuc 0 -ℤ toZ w64 (18446744073709551615 - w))) ≡ signedOf w
     negative = toZ-ofZ negative-fits ∙ rest ∙ sym (rw (lt-leb w 9223372036854775807 h) refl)
 
-never : {X : Type 0} → false ≡ true → X
-never e = let z : _≡_ {A = ℕ} 0 1 = cc in absurd (omega arith)
-
 -- −1 − z
 flipped : (z : ℤ) → leZ (pos 0) z ≡ false → negsuc 0 -ℤ z ≡ pos (mag z)
 flipped (pos n) e = absurd (omega (arith, leb-false 0 n e))
@@ -55,14 +52,14 @@ module _ (z : ℤ) (f : SFits w64 z) where
     where
       go : (z : ℤ) → mag z < 2 ^ 63 → leZ (pos 0) z ≡ true → T (nonNeg z) × Fits w64 (natAbs z)
       go (pos n) h e = (tt, record { fits = omega arith })
-      go (negsuc n) h e = never e
+      go (negsuc n) h e = absurd (false≢true e)
 
   pub word-up : leZ (pos 0) (toZ w64 (ofZ w64 z)) ≡ true → natAbs (toZ w64 (ofZ w64 z)) ≡ signedWord z
   word-up e = rw itself (go z (rw itself at e))
     where
       go : (z : ℤ) → leZ (pos 0) z ≡ true → natAbs z ≡ signedWord z
       go (pos n) e = refl
-      go (negsuc n) e = never e
+      go (negsuc n) e = absurd (false≢true e)
 
   module _ (e : leZ (pos 0) (toZ w64 (ofZ w64 z)) ≡ false) where
     turned : negsuc 0 -ℤ toZ w64 (ofZ w64 z) ≡ pos (mag z)
