@@ -7,6 +7,7 @@ use native.Mathlib.Omega.{arith}
 use lib.Dec.{leb, eqb}
 use lib.IntN.{ℤ, pos, negsuc}
 use lib.Signed.{mag}
+use borrow.Author.Needs.{needs}
 use borrow.Author.Tests.{le-leb, lt-leb, leb-true, leb-false, eqb-true, eqb-false}
 use Rattle.table.specs.declared.Class.{Class}
 use Rattle.table.specs.declared.Class.the-variants.{A, B}
@@ -157,7 +158,7 @@ module _ (s : List ℕ) where
 
   -- a last instant
   pub last-words : (i : Instant) → InstantFits i → Every Word (lastWords i)
-  last-words never f = (omega arith, tt)
+  last-words never f = search needs
   last-words (at k) f = (omega arith, (f, tt))
 
   pub last-back : (i : Instant) (k : ℕ) → InstantFits i → Held s k (lastWords i) → instantAt s k ≡ i
@@ -173,7 +174,7 @@ module _ (s : List ℕ) where
     where
       go : (b : Bool) → eqb (wordAt s k) 1 ≡ b → Held s k (lastWords (cond b (at (wordAt s (k + 1))) never))
       go true z = (eqb-true (wordAt s k) 1 z, (refl, tt))
-      go false z = (omega (arith, leb-true (wordAt s k) 1 e, eqb-false (wordAt s k) 1 z), tt)
+      go false z = let none : wordAt s k ≡ 0 = omega (arith, leb-true (wordAt s k) 1 e, eqb-false (wordAt s k) 1 z) in search needs
 
   pub last-small : Bytes s → (k : ℕ) → InstantFits (instantAt s k)
   last-small b k = go (eqb (wordAt s k) 1)
