@@ -1,4 +1,4 @@
--- `recordread::fits::frame_fits` meets its contract.
+-- `recordread::fits::frame_fits` meets its contract: the row and the size are tested, and the instant takes any word.
 use borrow.Author.Needs.{needs}
 use Rattle.recordread.proofs.fits.frame_fits.Statement.{statement}
 use Rattle.recordread.proofs.fits.frame_fits.Tie as tie

@@ -1,4 +1,4 @@
--- `recordread::fits::head_fits` meets its contract.
+-- `recordread::fits::head_fits` meets its contract: the five tests look at the five words of the definition.
 use Rattle.recordbytes.specs.Record.{headFits}
 use borrow.Author.Needs.{needs}
 use Rattle.recordread.proofs.fits.head_fits.Statement.{statement}

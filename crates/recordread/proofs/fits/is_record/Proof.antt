@@ -1,4 +1,4 @@
--- `recordread::fits::is_record` meets its contract.
+-- `recordread::fits::is_record` meets its contract: each test is the definition's, and a header that fits keeps the rows within the places.
 use mathlib.Core.Path.{sym, _∙_}
 use native.Mathlib.Omega.{arith}
 use borrow.Author.Tests.{not-true, not-false}

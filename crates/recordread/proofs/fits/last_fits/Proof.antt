@@ -1,4 +1,4 @@
--- `recordread::fits::last_fits` meets its contract.
+-- `recordread::fits::last_fits` meets its contract: the mark is the one word that is tested.
 use borrow.Author.Needs.{needs}
 use Rattle.recordread.proofs.fits.last_fits.Statement.{statement}
 use Rattle.recordread.proofs.fits.last_fits.Tie as tie

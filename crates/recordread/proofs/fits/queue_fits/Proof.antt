@@ -1,4 +1,4 @@
--- `recordread::fits::queue_fits` meets its contract.
+-- `recordread::fits::queue_fits` meets its contract: a count above the places fails, and under any other as many frames are tested as it says.
 use native.Mathlib.Omega.{arith}
 use denote.Ref.{now}
 use Rattle.recordread.proofs.Tests.{too-many, not-too-many}

@@ -1,4 +1,4 @@
--- `recordread::fits::row_fits` meets its contract.
+-- `recordread::fits::row_fits` meets its contract: the four tests look at the four words of the definition.
 use borrow.Author.Needs.{needs}
 use Rattle.recordread.proofs.fits.row_fits.Statement.{statement}
 use Rattle.recordread.proofs.fits.row_fits.Tie as tie

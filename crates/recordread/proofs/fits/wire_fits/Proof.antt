@@ -1,4 +1,4 @@
--- `recordread::fits::wire_fits` meets its contract.
+-- `recordread::fits::wire_fits` meets its contract: a mark of 1 has the frame and its bytes left tested, and any other mark fits only if it is 0.
 use mathlib.Core.Path.{sym, _∙_}
 use Rattle.recordread.proofs.Tests.{wire-sending, wire-else}
 use borrow.Author.Needs.{needs}

@@ -1,4 +1,4 @@
--- `recordread::read::class_of` meets its contract.
+-- `recordread::read::class_of` meets its contract: 0 is A, and every other word is B.
 use mathlib.Core.Path.{refl}
 use borrow.Author.Tests.{eq-eqb, ne-eqb}
 use Rattle.recordread.proofs.read.class_of.Statement.{statement}

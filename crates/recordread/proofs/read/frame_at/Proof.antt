@@ -1,4 +1,4 @@
--- `recordread::read::frame_at` meets its contract.
+-- `recordread::read::frame_at` meets its contract: the row and the size are cut to their fields, and the instant is its whole word.
 use borrow.Author.Needs.{needs}
 use Rattle.recordread.proofs.read.frame_at.Statement.{statement}
 use Rattle.recordread.proofs.read.frame_at.Tie as tie

@@ -1,4 +1,4 @@
--- `recordread::read::last_at` meets its contract.
+-- `recordread::read::last_at` meets its contract: a mark of 1 has the instant behind it, and any other mark has none.
 use mathlib.Core.Path.{sym, _∙_}
 use Rattle.recordread.proofs.Named.{last-known, last-unknown}
 use borrow.Author.Needs.{needs}

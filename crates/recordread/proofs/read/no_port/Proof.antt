@@ -1,4 +1,4 @@
--- `recordread::read::no_port` meets its contract.
+-- `recordread::read::no_port` meets its contract: a place that belongs to no part holds zeros, and here that is every place.
 use Rattle.recordread.proofs.Named.{zeros-named}
 use borrow.Author.Needs.{needs}
 use Rattle.recordread.proofs.read.no_port.Statement.{statement}

@@ -1,4 +1,4 @@
--- `recordread::read::port_of` meets its contract.
+-- `recordread::read::port_of` meets its contract: each part is the one that its words name, and a record's counts are within the places.
 use mathlib.Core.Path.{_∙_, ap}
 use native.Mathlib.Omega.{arith}
 use Rattle.recordbytes.specs.Record.{signedOf}

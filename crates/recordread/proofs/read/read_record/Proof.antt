@@ -1,4 +1,4 @@
--- `recordread::read::read_record` meets its contract.
+-- `recordread::read::read_record` meets its contract: the test decides which of the two ports is handed out.
 use mathlib.Core.Path.{sym, _∙_}
 use Rattle.recordread.proofs.Named.{record-read, no-record}
 use borrow.Author.Needs.{needs}

@@ -1,4 +1,4 @@
--- `recordread::read::row_at` meets its contract.
+-- `recordread::read::row_at` meets its contract: each of the four words is cut to its field.
 use borrow.Author.Needs.{needs}
 use Rattle.recordread.proofs.read.row_at.Statement.{statement}
 use Rattle.recordread.proofs.read.row_at.Tie as tie

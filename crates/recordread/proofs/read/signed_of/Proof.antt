@@ -1,4 +1,4 @@
--- `recordread::read::signed_of` meets its contract.
+-- `recordread::read::signed_of` meets its contract: a word below 2 ^ 63 is the number itself; of any other, 2 ^ 64 − 1 − w is below 2 ^ 63, so −1 less that fits.
 use Rattle.recordbytes.proofs.Laws.{not-negative, negative-fits, negative}
 use borrow.Author.Needs.{needs}
 use Rattle.recordread.proofs.read.signed_of.Statement.{statement}

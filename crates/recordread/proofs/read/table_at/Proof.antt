@@ -1,4 +1,4 @@
--- `recordread::read::table_at` meets its contract.
+-- `recordread::read::table_at` meets its contract: the header's values, the rows and their count are those that their words name.
 use mathlib.Core.Path.{_∙_, ap}
 use Rattle.recordbytes.specs.Record.{u16Of, u32Of}
 use Rattle.recordread.proofs.Named.{table-named}

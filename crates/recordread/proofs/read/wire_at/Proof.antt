@@ -1,4 +1,4 @@
--- `recordread::read::wire_at` meets its contract.
+-- `recordread::read::wire_at` meets its contract: a mark of 1 has the frame and its bytes left behind it, and any other mark is a free wire.
 use mathlib.Core.Path.{sym, _∙_}
 use Rattle.recordread.proofs.Named.{free-named, sending-named}
 use borrow.Author.Needs.{needs}

@@ -1,4 +1,4 @@
--- `recordwrite::write::put_frame` meets its contract.
+-- `recordwrite::write::put_frame` meets its contract: three words, one behind the other.
 use Rattle.words.proofs.Laws.{three}
 use borrow.Author.Needs.{needs}
 use Rattle.recordwrite.proofs.write.put_frame.Statement.{statement}

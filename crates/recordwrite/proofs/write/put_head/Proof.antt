@@ -1,4 +1,4 @@
--- `recordwrite::write::put_head` meets its contract.
+-- `recordwrite::write::put_head` meets its contract: five words, one behind the other, and the count is how many rows there are.
 use denote.Ref.{now}
 use Rattle.recordwrite.proofs.Storage.{head-put}
 use borrow.Author.Needs.{needs}

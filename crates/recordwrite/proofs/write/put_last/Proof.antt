@@ -1,4 +1,4 @@
--- `recordwrite::write::put_last` meets its contract.
+-- `recordwrite::write::put_last` meets its contract: a mark of 1 and the instant behind it, or a mark of 0 alone.
 use Rattle.recordwrite.proofs.Storage.{known-put, unknown-put}
 use borrow.Author.Needs.{needs}
 use Rattle.recordwrite.proofs.write.put_last.Statement.{statement}

@@ -1,4 +1,4 @@
--- `recordwrite::write::put_numbers` meets its contract.
+-- `recordwrite::write::put_numbers` meets its contract: three words, one behind the other, and a credit is the number that its 64 bits say.
 use Rattle.recordbytes.proofs.Laws.{word-plain}
 use denote.Ref.{now}
 use Rattle.words.proofs.Laws.{three}

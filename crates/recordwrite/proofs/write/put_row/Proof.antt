@@ -1,4 +1,4 @@
--- `recordwrite::write::put_row` meets its contract.
+-- `recordwrite::write::put_row` meets its contract: four words, one behind the other, the first the class's.
 use Rattle.recordwrite.proofs.Storage.{row-put}
 use borrow.Author.Needs.{needs}
 use Rattle.recordwrite.proofs.write.put_row.Statement.{statement}

@@ -1,4 +1,4 @@
--- `recordwrite::write::put_table` meets its contract.
+-- `recordwrite::write::put_table` meets its contract: the rows are stored over bytes that have the header already.
 use denote.Ref.{now}
 use Rattle.recordwrite.proofs.Storage.{table-put}
 use borrow.Author.Needs.{needs}

@@ -1,4 +1,4 @@
--- `recordwrite::write::put_wire` meets its contract.
+-- `recordwrite::write::put_wire` meets its contract: a free wire is a mark of 0; one that sends is a mark of 1, the frame and its bytes left, one behind the other.
 use Rattle.recordwrite.proofs.Storage.{free-put, sending-put}
 use borrow.Author.Needs.{needs}
 use Rattle.recordwrite.proofs.write.put_wire.Statement.{statement}

@@ -1,4 +1,4 @@
--- `recordwrite::write::put_word` meets its contract.
+-- `recordwrite::write::put_word` meets its contract: a word that has room is stored.
 use denote.Ref.{now}
 use Rattle.words.proofs.Laws.{put-fits}
 use borrow.Author.Needs.{needs}

@@ -1,4 +1,4 @@
--- `recordwrite::write::signed_word` meets its contract.
+-- `recordwrite::write::signed_word` meets its contract: a number from 0 on is its own word; of −(n + 1), −1 − z is n, and its word is n less than the largest.
 use Rattle.recordbytes.proofs.Laws.{fits-up, word-up, fits-turned, fits-down, below-top, word-down}
 use Rattle.recordwrite.proofs.write.signed_word.Statement.{statement}
 use Rattle.recordwrite.proofs.write.signed_word.Tie as tie

@@ -1,4 +1,4 @@
--- `recordwrite::write::write_record` meets its contract.
+-- `recordwrite::write::write_record` meets its contract: where there is room each part is stored over what the one before has left, and none changes how many bytes there are.
 use native.Mathlib.Omega.{arith}
 use denote.Ref.{now}
 use Rattle.recordbytes.proofs.Laws.{plain}

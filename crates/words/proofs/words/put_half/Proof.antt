@@ -1,4 +1,4 @@
--- `words::words::put_half` meets its contract.
+-- `words::words::put_half` meets its contract: the four bytes are set one behind the other.
 use native.Mathlib.Numerals.{add-one, add-two, add-three}
 use borrow.Author.Needs.{needs}
 use Rattle.words.proofs.words.put_half.Statement.{statement}

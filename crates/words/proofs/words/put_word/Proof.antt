@@ -1,4 +1,4 @@
--- `words::words::put_word` meets its contract.
+-- `words::words::put_word` meets its contract: where the last byte is there the two halves are the word's eight bytes, and else nothing is put.
 use Prim.Native.Nat.{_*_}
 use native.Mathlib.Numerals.{add-four}
 use native.Mathlib.Omega.{arith}
