@@ -151,9 +151,6 @@ module _ (p : State) (s : List ℕ) (fits : Fits p) (room : recordSize ≤ lengt
   a1 : Agree rowsStart b1 b8
   a1 = agree-more (omega arith) (spread-agrees rowWords rowWidth rowsStart (take mostRows (p .table .rows)) b1) a2
 
-  few : (n : ℕ) → n ≤ 64 → Word n
-  few n h = omega arith
-
   head-words : Every Word (headWords (p .table))
   head-words =
       let h = fits .numbered .header in
@@ -178,9 +175,9 @@ module _ (p : State) (s : List ℕ) (fits : Fits p) (room : recordSize ≤ lengt
         head = held-agrees rowsStart b1 b8 headStart (headWords (p .table)) (omega arith) a1 (held-stored s headStart (headWords (p .table)) head-words (omega arith));
         rows = each-agrees rowWords rowWidth (λ x. omega arith) clockStart b2 b8 rowsStart (p .table .rows) (omega (arith, fits .placed .rows)) a2 rows-stand;
         numbers = held-agrees queueaStart b3 b8 clockStart (numberWords p) (omega arith) a3 (held-stored b2 clockStart (numberWords p) number-words (omega (arith, l2)));
-        a = queue-later queuebStart b4 b8 (p .a) queueaStart (omega (arith, fits .placed .a)) a4 (queue-stands (p .a) classPlaces (fits .placed .a) b3 queueaStart (fits .numbered .a) (few (length (p .a)) (omega (arith, fits .placed .a))) (omega (arith, l3, fits .placed .a)));
-        b = queue-later bestStart b5 b8 (p .b) queuebStart (omega (arith, fits .placed .b)) a5 (queue-stands (p .b) classPlaces (fits .placed .b) b4 queuebStart (fits .numbered .b) (few (length (p .b)) (omega (arith, fits .placed .b))) (omega (arith, l4, fits .placed .b)));
-        best = queue-later lastStart b6 b8 (p .best) bestStart (omega (arith, fits .placed .best)) a6 (queue-stands (p .best) bestPlaces (fits .placed .best) b5 bestStart (fits .numbered .best) (few (length (p .best)) (omega (arith, fits .placed .best))) (omega (arith, l5, fits .placed .best)));
+        a = queue-later queuebStart b4 b8 (p .a) queueaStart (omega (arith, fits .placed .a)) a4 (queue-stands (p .a) classPlaces (fits .placed .a) b3 queueaStart (fits .numbered .a) (omega (arith, fits .placed .a)) (omega (arith, l3, fits .placed .a)));
+        b = queue-later bestStart b5 b8 (p .b) queuebStart (omega (arith, fits .placed .b)) a5 (queue-stands (p .b) classPlaces (fits .placed .b) b4 queuebStart (fits .numbered .b) (omega (arith, fits .placed .b)) (omega (arith, l4, fits .placed .b)));
+        best = queue-later lastStart b6 b8 (p .best) bestStart (omega (arith, fits .placed .best)) a6 (queue-stands (p .best) bestPlaces (fits .placed .best) b5 bestStart (fits .numbered .best) (omega (arith, fits .placed .best)) (omega (arith, l5, fits .placed .best)));
         last = each-agrees lastWords lastWidth last-wide wireStart b7 b8 lastStart (p .last) (omega (arith, fits .placed .rows, fits .placed .last)) a7 last-stand;
         wire = held-stored b7 wireStart (wireWords (p .wire)) (field.wire-words b7 (p .wire) (fits .numbered .wire)) (omega (arith, l7, wire-wide (p .wire)));
       }
