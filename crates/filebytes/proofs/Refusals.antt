@@ -4,7 +4,7 @@ use mathlib.Core.List.{List, [], _∷_}
 use mathlib.Core.Path.{_≡_, refl, sym, _∙_, ap}
 use lib.ListN.{length}
 use borrow.Author.Tests.{le-leb, lt-leb}
-use Rattle.table.specs.Rows.{Contents, contents}
+use Rattle.table.specs.Rows.{contents}
 use Rattle.table.specs.Checks as tables
 use Rattle.table.specs.Checks.{Outcome, accepted, refused, first}
 use Rattle.planner.specs.declared.Sheet.{Sheet}
@@ -16,7 +16,7 @@ use Rattle.tablefile.specs.declared.Writing.{Writing}
 use Rattle.tablefile.specs.Reading as files
 use Rattle.tablefile.specs.Reading.{readFile, Reads}
 use Rattle.tablefile.specs.Writing as writes
-use Rattle.tablefile.specs.Writing.{Writes, bufferBy, fileOf, writeCheck}
+use Rattle.tablefile.specs.Writing.{Writes, fileOf, writeCheck}
 use Rattle.words.specs.Words.{flat, wordBytes}
 use Rattle.codes.specs.Codes.{codeOf, over, fileCheck}
 use Rattle.codes.proofs.Laws.{reading-zero, both-zero, first-one, first-code, kept, opened-accepted, checked}
@@ -59,8 +59,8 @@ module _ (file : List ℕ) (l : Loaded) (read : Reads file l) where
     unfolding rewriteCheck
     rewritten z w written er =
         let same : rewriteCheck file before ≡ writeCheck (contents (l .table)) before = rw (← read .answer, reading-zero (l .answer) (sym e ∙ z), ← read .table) (first-one (writeCheck (contents (l .table)) before)) in
-        record { code = rw (same, ← written .answer) er; buffer = rw (same, ← read .table) (written .buffer ∙ as-over (writeCheck (contents (l .table)) before) (contents (l .table)) before) }
+        record { code = rw (same, ← written .answer) er; buffer = rw (same, ← read .table) (written .buffer ∙ as-over (writeCheck (contents (l .table)) before) (fileOf (contents (l .table))) before) }
       where
-        as-over : (o : Outcome) (t : Contents) (s : List ℕ) → bufferBy o t s ≡ over o (fileOf t) s
-        as-over accepted t s = refl
-        as-over (refused n p) t s = refl
+        as-over : (o : Outcome) (bytes s : List ℕ) → tables.over o bytes s ≡ over o bytes s
+        as-over accepted bytes s = refl
+        as-over (refused n p) bytes s = refl

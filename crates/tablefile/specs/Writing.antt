@@ -4,11 +4,11 @@ use mathlib.Core.Bool.{cond}
 use mathlib.Core.List.{List, [], _∷_, _++_}
 use mathlib.Core.Path.{_≡_}
 use lib.Dec.{leb, eqb}
-use lib.ListN.{length, drop}
+use lib.ListN.{length}
 use Rattle.table.specs.declared.Row.{Row}
 use Rattle.table.specs.declared.Table.{Table}
 use Rattle.table.specs.Rows.{Contents, contents}
-use Rattle.table.specs.Checks.{Outcome, accepted, refused, unless, first}
+use Rattle.table.specs.Checks.{Outcome, accepted, refused, unless, first, over}
 use Rattle.table.specs.Ranges.{ranged}
 use Rattle.tablefile.specs.declared.Writing.{Writing}
 use Rattle.tablefile.specs.declared.Writing.the-variants.{Written, TooShort, Refused}
@@ -55,17 +55,12 @@ lengthOf (Written n) = n
 lengthOf TooShort = 0
 lengthOf (Refused r) = 0
 
--- The buffer: the file's bytes, then its own bytes behind them; at a refusal every byte as it was.
-abbrev pub bufferBy : Outcome → Contents → List ℕ → List ℕ
-bufferBy accepted t buffer = fileOf t ++ drop (length (fileOf t)) buffer
-bufferBy (refused n p) t buffer = buffer
-
 abbrev pub lengthBy : Outcome → Contents → ℕ
 lengthBy accepted t = length (fileOf t)
 lengthBy (refused n p) t = 0
 
--- The promise of writing.
+-- The promise of writing. The buffer: the file's bytes, then its own bytes behind them; at a refusal every byte as it was.
 pub record Writes (t : Table) (before after : List ℕ) (w : Writing) : Type 0 where
   pub answer : outcomeOf w ≡ writeCheck (contents t) before
   pub size : lengthOf w ≡ lengthBy (writeCheck (contents t) before) (contents t)
-  pub buffer : after ≡ bufferBy (writeCheck (contents t) before) (contents t) before
+  pub buffer : after ≡ over (writeCheck (contents t) before) (fileOf (contents t)) before
