@@ -8,7 +8,7 @@ use borrow.Author.Tests.{eqb-true, eqb-false, leb-true, leb-false}
 use Rattle.table.specs.declared.Class.{Class}
 use Rattle.table.specs.declared.Class.the-variants.{A, B}
 use Rattle.table.specs.declared.Row.{Row}
-use Rattle.tablefile.specs.Layout.{Field, Payload, Period, Deadline, valueOf, defaultOf, bitOf, bits3to6, classBy, classOf, classBit}
+use Rattle.tablefile.specs.Layout.{Field, Payload, Period, Deadline, valueOf, defaultOf, weightOf, bitOf, bits3to6, classWeight, classBy, classOf, classBit}
 use Rattle.tablefile.specs.Writing.{mapByte}
 
 -- a field at its default
@@ -17,7 +17,7 @@ usual f r = eqb (valueOf f r) (defaultOf f r)
 
 -- the map byte of a class and of which fields are at their defaults
 abbrev pub mapFor : (payload period deadline : Bool) → Class → ℕ
-mapFor p q d c = cond p 0 1 + cond q 0 2 + cond d 0 4 + classBit c
+mapFor p q d c = cond p 0 (weightOf Payload) + cond q 0 (weightOf Period) + cond d 0 (weightOf Deadline) + classBit c
 
 pub map-for : (r : Row) → mapByte r ≡ mapFor (usual Payload r) (usual Period r) (usual Deadline r) (r .class)
 unfolding mapByte
@@ -80,12 +80,12 @@ weight n w = go (eqb (n % 2) 1) refl
     go true e = rw (eqb-true (n % 2) 1 e) (omega arith)
     go false e = let ne : n % 2 ≡ 1 → ⊥ = eqb-false (n % 2) 1 e in let z : n % 2 ≡ 0 = omega arith in rw z (omega arith)
 
-class-weight : (m : ℕ) → m < 256 → classBit (classOf m) ≡ 128 * (m / 128)
-class-weight m h = go (leb 128 m) refl
+class-weight : (m : ℕ) → m < 256 → classBit (classOf m) ≡ classWeight * (m / classWeight)
+class-weight m h = go (leb classWeight m) refl
   where
-    go : (b : Bool) → leb 128 m ≡ b → classBit (classBy b) ≡ 128 * (m / 128)
-    go true e = omega (arith, leb-true 128 m e)
-    go false e = omega (arith, leb-false 128 m e)
+    go : (b : Bool) → leb classWeight m ≡ b → classBit (classBy b) ≡ classWeight * (m / classWeight)
+    go true e = omega (arith, leb-true classWeight m e)
+    go false e = omega (arith, leb-false classWeight m e)
 
 pub map-back : (m : ℕ) → m < 256 → bits3to6 m ≡ 0 → m ≡ mapFor (not (bitOf Payload m)) (not (bitOf Period m)) (not (bitOf Deadline m)) (classOf m)
 unfolding bitOf

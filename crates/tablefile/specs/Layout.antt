@@ -65,7 +65,7 @@ defaultOf Payload r = 42
 defaultOf Period r = periodFor (r .class)
 defaultOf Deadline r = periodOf r
 
--- The map byte: bit 0 payload, bit 1 period, bit 2 deadline, bit 7 set for class B. Bits 3 to 6 stand for nothing.
+-- The map byte: bit 0 payload, bit 1 period, bit 2 deadline, bit 7 set for class B. Bits 3 to 6 are reserved: they stand for nothing, and are 0.
 abbrev pub weightOf : Field → ℕ
 weightOf Payload = 1
 weightOf Period = 2
@@ -77,16 +77,22 @@ bitOf f m = eqb (m / weightOf f % 2) 1
 abbrev pub bits3to6 : ℕ → ℕ
 bits3to6 m = m / 8 % 16
 
+abbrev pub reservedClear : ℕ → Bool
+reservedClear m = eqb (bits3to6 m) 0
+
+abbrev pub classWeight : ℕ
+classWeight = 128
+
 abbrev pub classBy : Bool → Class
 classBy true = B
 classBy false = A
 
 abbrev pub classOf : ℕ → Class
-classOf m = classBy (leb 128 m)
+classOf m = classBy (leb classWeight m)
 
 abbrev pub classBit : Class → ℕ
 classBit A = 0
-classBit B = 128
+classBit B = classWeight
 
 -- Only fields whose bit stands follow, in bit order: how many bytes each takes, where it stands, counted from the map byte, and the row's size.
 abbrev pub sizeIn : Field → ℕ → ℕ

@@ -17,7 +17,7 @@ use Rattle.tablefile.specs.declared.Fault.the-variants.{CutShort, Letter
 use Rattle.tablefile.specs.declared.Reading.{Reading}
 use Rattle.tablefile.specs.declared.Reading.the-variants.{Whole, Refused}
 use Rattle.tablefile.specs.declared.Loaded.{Loaded}
-use Rattle.tablefile.specs.Layout.{letters, headerSize, idleaPlace, idlebPlace, bestPlace, countPlace, valueAt, Field, Payload, Period, Deadline, valueOf, widthOf, defaultOf, bitOf, bits3to6, classOf, placeOf, rowSize}
+use Rattle.tablefile.specs.Layout.{letters, headerSize, idleaPlace, idlebPlace, bestPlace, countPlace, valueAt, Field, Payload, Period, Deadline, valueOf, widthOf, defaultOf, bitOf, reservedClear, classOf, placeOf, rowSize}
 
 -- The number of each case of the fault enum.
 abbrev pub numberOf : Fault → ℕ
@@ -97,7 +97,7 @@ fieldChecks f s at =
 abbrev pub rowChecks : List ℕ → ℕ → List Outcome
 rowChecks s at =
     unless (leb 1 (length s)) 1 at
-    ∷ unless (eqb (bits3to6 (mapOf s)) 0) 4 at
+    ∷ unless (reservedClear (mapOf s)) 4 at
     ∷ fieldChecks Payload s at
     ++ fieldChecks Period s at
     ++ fieldChecks Deadline s at

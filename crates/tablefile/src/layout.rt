@@ -1,7 +1,7 @@
-// What reader and writer share of the layout: the letters, the header's length, a map byte's bits and places, and the defaults.
+// What reader and writer share of the layout: the letters, where the header's fields stand, a map byte's bits, where a row's fields stand, and the defaults.
 ghost use mathlib.Core.Path.{_≡_};
 ghost use Prim.Native.Nat.{_≤_};
-ghost use Rattle.tablefile.specs.Layout.{Payload, Period, Deadline, bitOf, placeOf, rowSize, defaultOf};
+ghost use Rattle.tablefile.specs.Layout.{Payload, Period, Deadline, bitOf, reservedClear, classOf, classBit, placeOf, rowSize, defaultOf};
 use table::Class;
 use table::Row;
 use table::wire::period;
@@ -28,23 +28,61 @@ pub const PERIOD_WIDTH: usize = 4;
 
 pub const DEADLINE_WIDTH: usize = 4;
 
-// The bits of a map byte.
+// The weights of a map byte's bits: one for each field, the lowest of the reserved ones, and class B's above those.
+pub const PAYLOAD_WEIGHT: u8 = 1;
+
+pub const PERIOD_WEIGHT: u8 = 2;
+
+pub const DEADLINE_WEIGHT: u8 = 4;
+
+const RESERVED_WEIGHT: u8 = 8;
+
+const CLASS_WEIGHT: u8 = 128;
+
+// What a map byte says: which fields stand, whether no reserved bit does, and the class.
 pub fn payload_stands(map: u8) -> bool
     ensures { λ r. ⌜ r ≡ bitOf Payload map ⌝ }
 {
-    map % 2 == 1
+    map / PAYLOAD_WEIGHT % 2 == 1
 }
 
 pub fn period_stands(map: u8) -> bool
     ensures { λ r. ⌜ r ≡ bitOf Period map ⌝ }
 {
-    map / 2 % 2 == 1
+    map / PERIOD_WEIGHT % 2 == 1
 }
 
 pub fn deadline_stands(map: u8) -> bool
     ensures { λ r. ⌜ r ≡ bitOf Deadline map ⌝ }
 {
-    map / 4 % 2 == 1
+    map / DEADLINE_WEIGHT % 2 == 1
+}
+
+// The bits below the class's, taken together, are below the lowest reserved one.
+pub fn reserved_clear(map: u8) -> bool
+    ensures { λ r. ⌜ r ≡ reservedClear map ⌝ }
+{
+    map % CLASS_WEIGHT < RESERVED_WEIGHT
+}
+
+pub fn class_of(map: u8) -> Class
+    ensures { λ r. ⌜ r ≡ classOf map ⌝ }
+{
+    if CLASS_WEIGHT <= map {
+        return Class::B;
+    }
+    Class::A
+}
+
+// The class's part of a map byte.
+pub fn class_bit(class: Class) -> u8
+    ensures { λ r. ⌜ r ≡ classBit class ⌝ }
+    ensures small { λ r. ⌜ r ≤ 128 ⌝ }
+{
+    match class {
+        Class::A => 0,
+        Class::B => CLASS_WEIGHT,
+    }
 }
 
 // Where a row's period and its deadline stand, and the row's size, counted from the map byte.

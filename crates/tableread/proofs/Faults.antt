@@ -1,17 +1,17 @@
 -- What is wrong with a row, field by field.
 use Prim.Native.Nat.{ℕ, _+_, _≤_, _<_}
-use mathlib.Core.Bool.{Bool}
+use mathlib.Core.Bool.{Bool, true, false}
 use mathlib.Core.List.{List, _++_}
 use mathlib.Core.Path.{_≡_, refl, sym, _∙_, ap}
 use lib.Dec.{leb, eqb}
 use lib.ListN.{length}
-use borrow.Author.Tests.{le-leb, lt-leb, eq-eqb, ne-eqb}
+use borrow.Author.Tests.{le-leb, lt-leb}
 use Rattle.table.specs.declared.Row.{Row}
 use Rattle.table.specs.Checks.{Outcome, refused, first}
 use Rattle.tablefile.specs.declared.Fault.{Fault}
 use Rattle.tablefile.specs.declared.Reading.{Reading}
 use Rattle.tablefile.specs.declared.Reading.the-variants.{Whole, Refused}
-use Rattle.tablefile.specs.Layout.{Field, Payload, Period, Deadline, valueOf, widthOf, defaultOf, bitOf, bits3to6, placeOf}
+use Rattle.tablefile.specs.Layout.{Field, Payload, Period, Deadline, valueOf, widthOf, defaultOf, bitOf, reservedClear, placeOf}
 use Rattle.tablefile.specs.Reading.{outcomeOf, mapOf, rowFrom, fine, fieldTests, fieldChecks, row}
 use Rattle.tablefile.proofs.Laws.{orElse, first-join, field-read, field-inside}
 
@@ -31,16 +31,16 @@ module _ (s : List ℕ) (at : ℕ) where
   no-map h = rw (lt-leb _ _ h) refl
 
   module _ (long : 1 ≤ length s) {m : ℕ} (is : m ≡ mapOf s) where
-    pub bad-map : (bits3to6 m ≡ 0 → ⊥) → refused 4 at ≡ row s at
+    pub bad-map : reservedClear m ≡ false → refused 4 at ≡ row s at
     unfolding row
-    bad-map h = rw (le-leb _ _ long, ← is, ne-eqb _ _ h) refl
+    bad-map h = rw (le-leb _ _ long, ← is, h) refl
 
-    module _ (bits : bits3to6 m ≡ 0) where
+    module _ (clear : reservedClear m ≡ true) where
       by-fields : row s at ≡ orElse (orElse (first (fieldChecks Payload s at)) (first (fieldChecks Period s at))) (first (fieldChecks Deadline s at))
       unfolding row
       by-fields =
-          let b : bits3to6 (mapOf s) ≡ 0 = rw (← is) bits in
-          rw (le-leb 1 (length s) long, eq-eqb (bits3to6 (mapOf s)) 0 b)
+          let c : reservedClear (mapOf s) ≡ true = rw (← is) clear in
+          rw (le-leb 1 (length s) long, c)
           (first-join (fieldChecks Payload s at ++ fieldChecks Period s at) (fieldChecks Deadline s at)
           ∙ ap (λ (o : Outcome). orElse o (first (fieldChecks Deadline s at))) (first-join (fieldChecks Payload s at) (fieldChecks Period s at)))
 

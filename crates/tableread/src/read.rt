@@ -6,7 +6,7 @@ ghost use lib.ListN.{length, getD};
 ghost use Rattle.table.specs.Rows.{noRow};
 ghost use Rattle.table.specs.Checks.{accepted, first};
 ghost use Rattle.tablefile.specs.declared.Reading.{Reading};
-ghost use Rattle.tablefile.specs.Layout.{headerSize, valueAt, Payload, Period, Deadline, classOf, placeOf};
+ghost use Rattle.tablefile.specs.Layout.{headerSize, valueAt, Payload, Period, Deadline, placeOf};
 ghost use Rattle.tablefile.specs.Reading.{outcomeOf, opens, header, mapOf, withField, rowFrom, fine};
 ghost use Rattle.tablefile.specs.Reading.{fieldTests, fieldChecks, row, noTable, tableOf, Reads};
 use table::Class;
@@ -32,6 +32,7 @@ use tablefile::layout::LETTERS;
 use tablefile::layout::PAYLOAD_PLACE;
 use tablefile::layout::PAYLOAD_WIDTH;
 use tablefile::layout::PERIOD_WIDTH;
+use tablefile::layout::class_of;
 use tablefile::layout::deadline_place;
 use tablefile::layout::deadline_stands;
 use tablefile::layout::default_deadline;
@@ -40,6 +41,7 @@ use tablefile::layout::default_period;
 use tablefile::layout::payload_stands;
 use tablefile::layout::period_place;
 use tablefile::layout::period_stands;
+use tablefile::layout::reserved_clear;
 use tablefile::layout::row_size;
 
 // A byte, or 0 behind the last.
@@ -66,15 +68,6 @@ fn u32_at(s: &[u8], at: usize) -> u32
     ensures { λ r. ⌜ r ≡ valueAt 4 (now (s .entry)) at ⌝ }
 {
     65_536 * u16_at(s, at) as u32 + u16_at(s, at + 2) as u32
-}
-
-fn class_of(map: u8) -> Class
-    ensures { λ r. ⌜ r ≡ classOf map ⌝ }
-{
-    if 128 <= map {
-        return Class::B;
-    }
-    Class::A
 }
 
 // A field where its bit stands, and else its default in the row before it. `s` starts at the row's map byte.
@@ -232,7 +225,7 @@ fn row_fault(s: &[u8], at: usize, map: u8, found: Row) -> Reading
     if s.len() < 1 {
         return Reading::Refused(Fault::CutShort, at);
     }
-    if map / 8 % 16 != 0 {
+    if !reserved_clear(map) {
         return Reading::Refused(Fault::MapBit, at);
     }
     if let Reading::Refused(fault, place) = payload_fault(s, at, map, found) {

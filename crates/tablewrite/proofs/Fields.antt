@@ -9,7 +9,7 @@ use lib.Dec.{eqb}
 use lib.ListN.{length, set, drop, length-append}
 use lib.Seq.{sets}
 use Rattle.table.specs.declared.Row.{Row}
-use Rattle.tablefile.specs.Layout.{bytesOf, Field, Payload, Period, Deadline, valueOf, widthOf, defaultOf, bitOf, classBit, placeOf, rowSize}
+use Rattle.tablefile.specs.Layout.{bytesOf, Field, Payload, Period, Deadline, valueOf, widthOf, defaultOf, weightOf, bitOf, classBit, placeOf, rowSize}
 use Rattle.tablefile.specs.Writing.{mapByte, fieldBytes, rowBytes}
 use Rattle.tablefile.proofs.Laws.{bytes-length, field-size, row-length}
 use Rattle.tablewrite.proofs.Stores.{sets-append, sets-next, sets-front}
@@ -50,7 +50,7 @@ module _ (n v at : ℕ) (b : Bool) where
 -- ---- a row
 module _ (r : Row) where
   pub map-is : {p q d a b e k : ℕ} → p ≡ defaultOf Payload r → q ≡ defaultOf Period r → d ≡ defaultOf Deadline r
-      → a ≡ cond (eqb (r .payload) p) 0 1 → b ≡ cond (eqb (r .period) q) 0 2 → e ≡ cond (eqb (r .deadline) d) 0 4 → k ≡ classBit (r .class) → a + b + e + k ≡ mapByte r
+      → a ≡ cond (eqb (r .payload) p) 0 (weightOf Payload) → b ≡ cond (eqb (r .period) q) 0 (weightOf Period) → e ≡ cond (eqb (r .deadline) d) 0 (weightOf Deadline) → k ≡ classBit (r .class) → a + b + e + k ≡ mapByte r
   unfolding mapByte
   map-is ep eq ed ea eb ee ek = rw (ea, eb, ee, ek, ep, eq, ed) refl
 

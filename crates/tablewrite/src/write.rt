@@ -7,9 +7,8 @@ ghost use lib.ListN.{length, set, drop};
 ghost use lib.Seq.{sets};
 ghost use Rattle.table.specs.Limits.{mostRows};
 ghost use Rattle.table.specs.Rows.{rowsOf, contents};
-ghost use Rattle.tablefile.specs.Layout.{letters, headerSize, bytesOf, classBit};
+ghost use Rattle.tablefile.specs.Layout.{letters, headerSize, bytesOf};
 ghost use Rattle.tablefile.specs.Writing.{mapByte, rowBytes, rowsBytes, headerBytes, fileOf, Writes};
-use table::Class;
 use table::Row;
 use table::Table;
 use table::Verdict;
@@ -17,11 +16,15 @@ use table::ranges::ranges;
 use tablefile::Writing;
 use tablefile::layout::BEST_PLACE;
 use tablefile::layout::COUNT_PLACE;
+use tablefile::layout::DEADLINE_WEIGHT;
 use tablefile::layout::HEADER_SIZE;
 use tablefile::layout::IDLEA_PLACE;
 use tablefile::layout::IDLEB_PLACE;
 use tablefile::layout::LETTERS;
 use tablefile::layout::PAYLOAD_PLACE;
+use tablefile::layout::PAYLOAD_WEIGHT;
+use tablefile::layout::PERIOD_WEIGHT;
+use tablefile::layout::class_bit;
 use tablefile::layout::deadline_place;
 use tablefile::layout::deadline_stands;
 use tablefile::layout::default_deadline;
@@ -91,23 +94,13 @@ fn bit_for(usual: bool, bit: u8) -> u8
     bit
 }
 
-fn class_bit(class: Class) -> u8
-    ensures { λ r. ⌜ r ≡ classBit class ⌝ }
-    ensures small { λ r. ⌜ r ≤ 128 ⌝ }
-{
-    match class {
-        Class::A => 0,
-        Class::B => 128,
-    }
-}
-
 fn map_byte(row: Row) -> u8
     ensures { λ r. ⌜ r ≡ mapByte row ⌝ }
 {
     let class = row.class;
-    let payload = bit_for(row.payload == default_payload(row), 1);
-    let period = bit_for(row.period == default_period(row), 2);
-    let deadline = bit_for(row.deadline == default_deadline(row), 4);
+    let payload = bit_for(row.payload == default_payload(row), PAYLOAD_WEIGHT);
+    let period = bit_for(row.period == default_period(row), PERIOD_WEIGHT);
+    let deadline = bit_for(row.deadline == default_deadline(row), DEADLINE_WEIGHT);
     payload + period + deadline + class_bit(class)
 }
 

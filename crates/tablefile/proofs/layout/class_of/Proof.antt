@@ -1,7 +1,7 @@
--- `tableread::read::class_of` meets its contract.
+-- `tablefile::layout::class_of` meets its contract.
 use borrow.Author.Tests.{le-leb, lt-leb}
-use Rattle.tableread.proofs.read.class_of.Statement.{statement}
-use Rattle.tableread.proofs.read.class_of.Tie as tie
+use Rattle.tablefile.proofs.layout.class_of.Statement.{statement}
+use Rattle.tablefile.proofs.layout.class_of.Tie as tie
 
 returns : tie.Need-returns
 returns c = simp (le-leb _ _ (c .if1 .taken))
