@@ -18,6 +18,7 @@ use Rattle.tablefile.specs.Writing.{headerBytes, rowsBytes, fileOf}
 use Rattle.tablefile.specs.RoundTrip.{Bytes, ReadBack, ReadingWritten, WritingRead, ReadInRange, AsLong}
 use Rattle.tablefile.proofs.Rows.{accept-first}
 use Rattle.tablefile.proofs.RowsTrip.{RowsBack, rows-back, RowsOf, rows-of}
+use Rattle.tablefile.proofs.Filled.{rows-count}
 use Rattle.tablefile.proofs.HeaderTrip.{header-if, count-back, rest-back, header-length, values-back, header-back, header-of}
 use Rattle.table.proofs.Laws as law
 
@@ -83,19 +84,22 @@ module _ (s : List ℕ) (b : Bytes s) (e : first (fileChecks s) ≡ accepted) wh
   parts : RowsOf (rowCount s) s headerSize
   parts = rows-of (rowCount s) s headerSize b (law.all-accept (rowsChecks (rowCount s) s headerSize) (law.all-accept (fileChecks s) e .1 .0))
 
+  counted : length read ≡ rowCount s
+  counted = rows-count (rowCount s) s headerSize
+
   ends : length s ≤ fileEnd s
   ends = leb-true (length s) (fileEnd s) (law.unless-passes (leb (length s) (fileEnd s)) 7 (fileEnd s) (law.all-accept (fileChecks s) e .1 .1 .0))
 
   said : contents (readFile s .table) ≡ record { header = headerOf s; rows = read }
   unfolding readFile
-  said = ap (λ (o : Outcome). contents (tableBy o s)) e ∙ contents-read s read (parts .count)
+  said = ap (λ (o : Outcome). contents (tableBy o s)) e ∙ contents-read s read counted
 
   rows-written : rowsBytes read ≡ drop headerSize s
   rows-written = sym (append-nil (rowsBytes read)) ∙ ap (λ q. rowsBytes read ++ q) (sym (drop-of-length-le s ends)) ∙ sym (parts .bytes)
 
   written : fileOf (contents (readFile s .table)) ≡ s
   unfolding fileOf
-  written = ap fileOf said ∙ ap (λ q. headerBytes (record { header = headerOf s; rows = read }) ++ q) rows-written ∙ sym (header-of s read b (header-if s heads) (parts .count))
+  written = ap fileOf said ∙ ap (λ q. headerBytes (record { header = headerOf s; rows = read }) ++ q) rows-written ∙ sym (header-of s read b (header-if s heads) counted)
 
   in-range : ranged (contents (readFile s .table)) ≡ accepted
   in-range =
@@ -103,8 +107,8 @@ module _ (s : List ℕ) (b : Bytes s) (e : first (fileChecks s) ≡ accepted) wh
       rw said
       (law.ranged-only-if (record { header = headerOf s; rows = read })
       (record {
-        some = rw (parts .count) (h .some);
-        most = rw (parts .count) (h .most);
+        some = rw counted (h .some);
+        most = rw counted (h .most);
         idlea = h .idlea;
         idleb = h .idleb;
         best = h .payload;

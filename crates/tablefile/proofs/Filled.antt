@@ -13,7 +13,7 @@ use Rattle.table.proofs.Laws.{rows-are}
 use Rattle.tablefile.specs.Layout.{headerSize}
 use Rattle.tablefile.specs.Reading.{rowCount, behindRow, rowsFrom, tableOf, readFile}
 
-rows-count : (n : ℕ) (s : List ℕ) (at : ℕ) → length (rowsFrom n s at) ≡ n
+pub rows-count : (n : ℕ) (s : List ℕ) (at : ℕ) → length (rowsFrom n s at) ≡ n
 unfolding rowsFrom
 rows-count zero s at = refl
 rows-count (suc n) s at = ap suc (rows-count n s (behindRow s at))

@@ -41,18 +41,16 @@ rows-back (r ∷ rs) s at rest ok e =
 
 -- ---- bytes that read as rows are the rows' bytes, and the rows are in range
 pub record RowsOf (n : ℕ) (s : List ℕ) (at : ℕ) : Type 0 where
-  pub count : length (rowsFrom n s at) ≡ n
   pub bytes : drop at s ≡ rowsBytes (rowsFrom n s at) ++ drop (rowsEnd n s at) s
   pub range : Every InRange (rowsFrom n s at)
 
 pub rows-of : (n : ℕ) (s : List ℕ) (at : ℕ) → Bytes s → law.Accept (rowsChecks n s at) → RowsOf n s at
 unfolding rowsChecks rowsFrom rowsEnd rowsBytes
-rows-of zero s at b a = record { count = refl; bytes = refl; range = tt }
+rows-of zero s at b a = record { bytes = refl; range = tt }
 rows-of (suc n) s at b a =
     let x = row-of (drop at s) (bytes-drop at s b) (row-if (drop at s) at (a .0)) in
     let y = rows-of n s (behindRow s at) b (a .1) in
     record {
-      count = ap suc (y .count);
       bytes =
           x .bytes
           ∙ ap (λ q. rowBytes (rowFrom (drop at s)) ++ q) (drop-drop (rowSize (mapOf (drop at s))) at s ∙ y .bytes)

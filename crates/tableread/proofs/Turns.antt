@@ -14,16 +14,11 @@ use Rattle.table.specs.Rows.{noRow}
 use Rattle.table.specs.Checks.{accepted, refused, first}
 use Rattle.tablefile.specs.Layout.{headerSize, rowSize}
 use Rattle.tablefile.specs.Reading.{rowCount, header, headerOf, mapOf, rowFrom, row, behindRow, rowsChecks, rowsFrom, rowsEnd, tableOf}
-use Rattle.tablefile.proofs.Laws.{row-if, row-inside}
+use Rattle.tablefile.proofs.Laws.{row-if, row-inside, rows-count}
 use Rattle.tableread.proofs.Headers.{long-enough}
 use Rattle.table.proofs.Laws as law
 
 -- ---- one row more, behind the others
-rows-length : (i : ℕ) (s : List ℕ) (at : ℕ) → length (rowsFrom i s at) ≡ i
-unfolding rowsFrom
-rows-length zero s at = refl
-rows-length (suc i) s at = ap suc (rows-length i s (behindRow s at))
-
 end-next : (i : ℕ) (s : List ℕ) (at : ℕ) → rowsEnd (suc i) s at ≡ behindRow s (rowsEnd i s at)
 unfolding rowsEnd
 end-next zero s at = refl
@@ -77,7 +72,7 @@ withRowAt t i r = record { header = t .header; count = t .count; rows = set (t .
 
 filled : (s : List ℕ) (i : ℕ) (r : Row) → i < mostRows → r ≡ rowFrom (drop (rowsEnd i s headerSize) s) → withRowAt (tableOf s (rowsFrom i s headerSize)) i r ≡ tableOf s (rowsFrom (i + 1) s headerSize)
 filled s i r h e =
-    ap (λ (l : List Row). record { header = headerOf s; count = rowCount s; rows = l }) (stored (rowsFrom i s headerSize) r i (rows-length i s headerSize) h)
+    ap (λ (l : List Row). record { header = headerOf s; count = rowCount s; rows = l }) (stored (rowsFrom i s headerSize) r i (rows-count i s headerSize) h)
     ∙ ap (tableOf s) (ap (λ (x : Row). rowsFrom i s headerSize ++ x ∷ []) e ∙ sym (rows-next i s headerSize) ∙ ap (λ (k : ℕ). rowsFrom k s headerSize) (sym (add-one i)))
 
 module _ (s : List ℕ) {t : Table} {at i : ℕ} (f : Filling s t at i) where
