@@ -1,4 +1,4 @@
--- A walk by hand: the record is copied out of the borrow, advanced by value, and stored back.
+-- `lent_port::record::advance` meets its contract: a walk of its MIR, by hand. The record is copied out of the borrow, advanced by value, and stored back.
 use mathlib.Core.Path.{_≡_, refl, sym, subst}
 use Prim.Native.Nat.{ℕ, _<_, _^_}
 use mathlib.Core.List.{[], _∷_, List}

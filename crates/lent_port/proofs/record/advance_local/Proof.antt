@@ -1,4 +1,4 @@
--- A walk by hand: the local is lent for a lifetime that the walk makes, and is back after the call at the reference's last value.
+-- `lent_port::record::advance_local` meets its contract: a walk of its MIR, by hand. The local is lent for a lifetime that the walk makes, and is back after the call at the reference's last value.
 use mathlib.Core.Path.{refl, ap}
 use Prim.Native.Nat.{ℕ, _<_, _^_}
 use mathlib.Core.List.{[], _∷_, List}

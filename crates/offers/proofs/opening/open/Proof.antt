@@ -1,4 +1,4 @@
--- `offers::opening::open` meets its contract, part by part.
+-- `offers::opening::open` meets its contract: the verdict is the planner's, and the port is fresh whatever it says.
 use borrow.Author.Needs.{needs}
 use Rattle.offers.proofs.opening.open.Statement.{statement}
 use Rattle.offers.proofs.opening.open.Tie as tie

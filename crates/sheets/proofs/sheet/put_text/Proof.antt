@@ -1,4 +1,4 @@
--- `sheets::sheet::put_text` meets its contract, case by case.
+-- `sheets::sheet::put_text` meets its contract: the refusal of reading decides, then that of opening, and a table that has neither is put.
 use mathlib.Core.List.{[], _∷_}
 use mathlib.Core.Path.{_≡_, sym, _∙_, ap}
 use denote.Ref.{now}

@@ -1,3 +1,4 @@
+-- `table::wire::period` meets its contract: the period is the row's own, and it keeps its value when it is widened.
 use Rattle.table.specs.Wire.{periodOf}
 use borrow.Author.Needs.{needs}
 use Rattle.table.proofs.wire.period.Statement.{statement}

@@ -1,3 +1,4 @@
+-- `table::wire::size` meets its contract: a row's size is that of a frame with its whole payload.
 use Rattle.table.specs.Wire.{sizeOf}
 use borrow.Author.Needs.{needs}
 use Rattle.table.proofs.wire.size.Statement.{statement}

@@ -1,3 +1,4 @@
+-- `table::wire::size_for` meets its contract: whatever the row, the size is the payload's wire size.
 use Rattle.table.specs.Wire.{sizeFor}
 use borrow.Author.Needs.{needs}
 use Rattle.table.proofs.wire.size_for.Statement.{statement}

@@ -1,3 +1,4 @@
+-- `table::wire::wire_size` meets its contract: on either side of the test the result is 42 and the larger of 42 and the payload.
 use Rattle.table.specs.Wire.{wireSize}
 use borrow.Author.Needs.{needs}
 use Rattle.table.proofs.wire.wire_size.Statement.{statement}

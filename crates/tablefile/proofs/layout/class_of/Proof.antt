@@ -1,4 +1,4 @@
--- `tablefile::layout::class_of` meets its contract.
+-- `tablefile::layout::class_of` meets its contract: the class is B exactly from 128 on.
 use borrow.Author.Tests.{le-leb, lt-leb}
 use Rattle.tablefile.proofs.layout.class_of.Statement.{statement}
 use Rattle.tablefile.proofs.layout.class_of.Tie as tie

@@ -1,4 +1,4 @@
--- `tablefile::layout::deadline_place` meets its contract.
+-- `tablefile::layout::deadline_place` meets its contract: behind the period's place the period takes its four bytes where its bit stands, and else none.
 use native.Mathlib.Omega.{arith}
 use borrow.Author.Needs.{needs}
 use Rattle.tablefile.specs.Layout.{Period}

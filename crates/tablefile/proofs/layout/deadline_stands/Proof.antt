@@ -1,4 +1,4 @@
--- `tablefile::layout::deadline_stands` meets its contract.
+-- `tablefile::layout::deadline_stands` meets its contract: the test is the definition's, with the deadline's weight.
 use mathlib.Core.Path.{refl}
 use Rattle.tablefile.specs.Layout.{bitOf}
 use Rattle.tablefile.proofs.layout.deadline_stands.Statement.{statement}

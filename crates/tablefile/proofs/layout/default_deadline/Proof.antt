@@ -1,4 +1,4 @@
--- `tablefile::layout::default_deadline` meets its contract.
+-- `tablefile::layout::default_deadline` meets its contract: the default is the row's period, which is never too large for the cast.
 use borrow.Author.Needs.{needs}
 use Rattle.tablefile.specs.Layout.{defaultOf}
 use Rattle.tablefile.proofs.layout.default_deadline.Statement.{statement}

@@ -1,4 +1,4 @@
--- `tablefile::layout::default_payload` meets its contract.
+-- `tablefile::layout::default_payload` meets its contract: the default is 42, whatever the row.
 use mathlib.Core.Path.{refl}
 use Rattle.tablefile.specs.Layout.{defaultOf}
 use Rattle.tablefile.proofs.layout.default_payload.Statement.{statement}

@@ -1,4 +1,4 @@
--- `tablefile::layout::default_period` meets its contract.
+-- `tablefile::layout::default_period` meets its contract: in either case the period is that of the class.
 use mathlib.Core.Path.{sym, ap}
 use borrow.Author.Needs.{needs}
 use Rattle.tablefile.specs.Layout.{periodFor, defaultOf}

@@ -1,4 +1,4 @@
--- `tablefile::layout::payload_stands` meets its contract.
+-- `tablefile::layout::payload_stands` meets its contract: the test is the definition's, with the payload's weight.
 use mathlib.Core.Path.{refl}
 use Rattle.tablefile.specs.Layout.{bitOf}
 use Rattle.tablefile.proofs.layout.payload_stands.Statement.{statement}

@@ -1,4 +1,4 @@
--- `tablefile::layout::period_place` meets its contract.
+-- `tablefile::layout::period_place` meets its contract: the payload takes its two bytes where its bit stands, and else none.
 use native.Mathlib.Omega.{arith}
 use borrow.Author.Needs.{needs}
 use Rattle.tablefile.specs.Layout.{Payload}

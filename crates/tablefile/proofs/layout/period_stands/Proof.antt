@@ -1,4 +1,4 @@
--- `tablefile::layout::period_stands` meets its contract.
+-- `tablefile::layout::period_stands` meets its contract: the test is the definition's, with the period's weight.
 use mathlib.Core.Path.{refl}
 use Rattle.tablefile.specs.Layout.{bitOf}
 use Rattle.tablefile.proofs.layout.period_stands.Statement.{statement}

@@ -1,4 +1,4 @@
--- `tablefile::layout::row_size` meets its contract.
+-- `tablefile::layout::row_size` meets its contract: behind the deadline's place the deadline takes its four bytes where its bit stands, and else none.
 use native.Mathlib.Omega.{arith}
 use borrow.Author.Needs.{needs}
 use Rattle.tablefile.specs.Layout.{Deadline}

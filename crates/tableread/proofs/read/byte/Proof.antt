@@ -1,4 +1,4 @@
--- `tableread::read::byte` meets its contract.
+-- `tableread::read::byte` meets its contract: a place behind the last byte reads as 0, and any other as its byte.
 use mathlib.Core.Path.{sym}
 use lib.ListN.{List·getD-eq-default}
 use denote.Ref.{now}

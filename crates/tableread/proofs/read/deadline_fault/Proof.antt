@@ -1,4 +1,4 @@
--- `tableread::read::deadline_fault` meets its contract.
+-- `tableread::read::deadline_fault` meets its contract: the tests handed on are those of the deadline's checks, at the deadline's place.
 use Prim.Native.Nat.{_+_}
 use mathlib.Core.Path.{ap}
 use lib.ListN.{length}

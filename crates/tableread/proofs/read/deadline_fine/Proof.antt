@@ -1,4 +1,4 @@
--- `tableread::read::deadline_fine` meets its contract.
+-- `tableread::read::deadline_fine` meets its contract: a deadline of 0 makes the first part of `fine` false, and for any other the second part decides.
 use mathlib.Core.Path.{refl}
 use borrow.Author.Tests.{le-leb, lt-leb}
 use borrow.Author.Needs.{needs}

@@ -1,4 +1,4 @@
--- `tableread::read::field_fault` meets its contract.
+-- `tableread::read::field_fault` meets its contract: each return is the first test that fails, and a field whose bit does not stand is asked nothing.
 use mathlib.Core.Path.{refl}
 use borrow.Author.Tests.{not-true, not-false}
 use Rattle.tableread.proofs.Faults.{by-tests}

@@ -1,4 +1,4 @@
--- `tableread::read::header_table` meets its contract.
+-- `tableread::read::header_table` meets its contract: each value is that of its bytes, and every place has a row of zeros.
 use Prim.Native.Nat.{ℕ}
 use mathlib.Core.Path.{_≡_, refl}
 use mathlib.Core.List.{List, []}

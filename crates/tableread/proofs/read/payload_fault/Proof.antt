@@ -1,4 +1,4 @@
--- `tableread::read::payload_fault` meets its contract.
+-- `tableread::read::payload_fault` meets its contract: the tests handed on are those of the payload's checks.
 use mathlib.Core.Path.{ap, refl}
 use lib.Dec.{eqb}
 use borrow.Author.Needs.{needs}

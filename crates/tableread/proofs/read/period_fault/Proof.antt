@@ -1,4 +1,4 @@
--- `tableread::read::period_fault` meets its contract.
+-- `tableread::read::period_fault` meets its contract: the tests handed on are those of the period's checks, at the period's place.
 use Prim.Native.Nat.{_+_}
 use mathlib.Core.Path.{ap}
 use lib.ListN.{length}

@@ -1,4 +1,4 @@
--- `tableread::read::period_fine` meets its contract.
+-- `tableread::read::period_fine` meets its contract: a period that is too short makes the first part of `fine` false, and for any other the second part decides.
 use mathlib.Core.Path.{refl}
 use borrow.Author.Tests.{le-leb, lt-leb}
 use borrow.Author.Needs.{needs}

@@ -1,4 +1,4 @@
--- `tableread::read::read` meets its contract.
+-- `tableread::read::read` meets its contract: what is wrong with the header is the file's first refusal, and behind a header that passes the rows decide.
 use mathlib.Core.Path.{sym, _∙_, ap}
 use borrow.Author.Needs.{needs}
 use Rattle.tablefile.specs.Reading.{outcomeOf}

@@ -1,4 +1,4 @@
--- `tableread::read::read_header` meets its contract.
+-- `tableread::read::read_header` meets its contract: each return is the first check of the header that fails.
 use borrow.Author.Needs.{needs}
 use Rattle.table.proofs.Laws as law
 use Rattle.tableread.proofs.Headers.{short, other-letters, high-a, high-b, high-payload, no-rows, many-rows, right}

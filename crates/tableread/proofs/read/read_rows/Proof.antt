@@ -1,4 +1,4 @@
--- `tableread::read::read_rows` meets its contract.
+-- `tableread::read::read_rows` meets its contract: after i turns the first i rows have passed and stand in the table, and the next one starts at the place.
 use Prim.Native.Nat.{_-_}
 use mathlib.Core.Path.{_≡_, sym, _∙_, ap}
 use native.Mathlib.Omega.{arith}

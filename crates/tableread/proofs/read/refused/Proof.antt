@@ -1,4 +1,4 @@
--- `tableread::read::refused` meets its contract.
+-- `tableread::read::refused` meets its contract: every place of its table has a row of zeros.
 use mathlib.Core.Path.{refl}
 use borrow.Author.Needs.{needs}
 use Rattle.tableread.proofs.read.refused.Statement.{statement}

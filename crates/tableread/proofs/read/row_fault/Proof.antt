@@ -1,4 +1,4 @@
--- `tableread::read::row_fault` meets its contract.
+-- `tableread::read::row_fault` meets its contract: each return is the first check that fails, and fields that passed lie within the file, so that the sum for the next one's place does not wrap.
 use native.Mathlib.Omega.{arith}
 use denote.Ref.{now}
 use borrow.Author.Needs.{needs}

@@ -1,4 +1,4 @@
--- `tableread::read::row_from` meets its contract.
+-- `tableread::read::row_from` meets its contract: the fields are filled in one by one, each into the row that has those before it.
 use borrow.Author.Needs.{needs}
 use Rattle.tableread.proofs.Values.{row-built}
 use Rattle.tableread.proofs.read.row_from.Statement.{statement}

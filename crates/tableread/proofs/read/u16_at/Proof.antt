@@ -1,4 +1,4 @@
--- `tableread::read::u16_at` meets its contract.
+-- `tableread::read::u16_at` meets its contract: the value of two bytes is 256 times the first, and the second.
 use native.Mathlib.Omega.{arith}
 use denote.Ref.{now}
 use borrow.Author.Needs.{needs}

@@ -1,4 +1,4 @@
--- `tableread::read::u32_at` meets its contract.
+-- `tableread::read::u32_at` meets its contract: the value of four bytes is 65,536 times that of the first two, and that of the other two.
 use native.Mathlib.Omega.{arith}
 use denote.Ref.{now}
 use borrow.Author.Needs.{needs}

@@ -1,4 +1,4 @@
--- `tableread::read::with_payload` meets its contract.
+-- `tableread::read::with_payload` meets its contract: the payload is what its bytes say where its bit stands, and else its default.
 use mathlib.Core.Path.{refl}
 use denote.Ref.{now}
 use borrow.Author.Needs.{needs}

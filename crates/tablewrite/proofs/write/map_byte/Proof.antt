@@ -1,4 +1,4 @@
--- `tablewrite::write::map_byte` meets its contract.
+-- `tablewrite::write::map_byte` meets its contract: each field that is not at its default adds its weight, and the class its bit.
 use borrow.Author.Needs.{needs}
 use Rattle.tablewrite.proofs.Fields.{map-is}
 use Rattle.tablewrite.proofs.write.map_byte.Statement.{statement}

@@ -1,4 +1,4 @@
--- `tablewrite::write::put16` meets its contract.
+-- `tablewrite::write::put16` meets its contract: the high byte, and the low byte behind it.
 use native.Mathlib.Omega.{arith}
 use denote.Ref.{now}
 use borrow.Author.Needs.{needs}

@@ -1,4 +1,4 @@
--- `tablewrite::write::put_field32` meets its contract.
+-- `tablewrite::write::put_field32` meets its contract: four bytes are stored where the bit stands, and else none.
 use denote.Ref.{now}
 use borrow.Author.Tests.{not-true, not-false}
 use borrow.Author.Needs.{needs}

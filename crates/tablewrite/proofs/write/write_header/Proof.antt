@@ -1,4 +1,4 @@
--- `tablewrite::write::write_header` meets its contract.
+-- `tablewrite::write::write_header` meets its contract: the stores are the header's parts, one behind the other, and the count is the number of rows in use.
 use borrow.Author.Needs.{needs}
 use Rattle.table.proofs.Laws.{rows-length}
 use Rattle.tablefile.specs.Writing.{headerBytes}

@@ -1,4 +1,4 @@
--- `tablewrite::write::write_row` meets its contract.
+-- `tablewrite::write::write_row` meets its contract: each field is stored where those before it end, so that the stores are the row from the front.
 use mathlib.Core.Path.{refl}
 use native.Mathlib.Omega.{arith}
 use borrow.Author.Needs.{needs}
