@@ -10,8 +10,10 @@ use lib.Dec.{leb, eqb}
 use lib.ListN.{length, getD, set, take, drop, replicate, length-take, drop-of-length-le, getD-replicate}
 use lib.Seq.{getD-set-same, getD-set-other}
 use borrow.Author.Tests.{eqb-true, eqb-false, ne-eqb}
+use Rattle.table.specs.Limits.{mostRows}
 use Rattle.machine.specs.declared.Frame.{Frame}
 use Rattle.machine.specs.declared.Wire.{Wire}
+use Rattle.machine.specs.Limits.{classPlaces}
 use Rattle.machine.specs.Record.{count, inQueue, sending, upTo}
 use Rattle.machine.proofs.FromSound.{up-to-true}
 use Rattle.machine.proofs.Places.{zeroFrame, next}
@@ -19,14 +21,14 @@ use Rattle.record.specs.Steps.{Counts, Counted}
 
 -- ---- one frame more
 module _ (counts : List ℕ) (source : ℕ) where
-  pub counted : length counts ≡ 32 → source < 32 → Counted (λ k. count (eqb source k)) counts (set counts source (getD counts source 0 + 1))
+  pub counted : length counts ≡ mostRows → source < mostRows → Counted (λ k. count (eqb source k)) counts (set counts source (getD counts source 0 + 1))
   counted long h k g = go (eqb source k) refl
     where
       go : (b : Bool) → eqb source k ≡ b → getD (set counts source (getD counts source 0 + 1)) k 0 ≡ getD counts k 0 + count (eqb source k)
       go true e = rw (e, ← eqb-true source k e) (getD-set-same counts source (getD counts source 0 + 1) 0 (rw long h))
       go false e = rw (e, add-zero) (getD-set-other counts source k (getD counts source 0 + 1) 0 (λ z. eqb-false source k e (sym z)))
 
-  pub not-counted : 32 ≤ source → Counted (λ k. count (eqb source k)) counts counts
+  pub not-counted : mostRows ≤ source → Counted (λ k. count (eqb source k)) counts counts
   not-counted h k g = rw (ne-eqb source k (λ z. absurd (omega arith)), add-zero) refl
 
 -- ---- a queue
@@ -40,11 +42,11 @@ queue-most k (f ∷ q) = omega (arith, count-most (eqb (f .source) k), queue-mos
 
 -- the counters, when the frames from i on are still to be counted
 abbrev pub Counting : List ℕ → List Frame → ℕ → ℕ → List ℕ → Type 0
-Counting first xs n i counts = (k : ℕ) → k < 32 → getD counts k 0 + inQueue k (drop i (take n xs)) ≡ getD first k 0 + inQueue k (take n xs)
+Counting first xs n i counts = (k : ℕ) → k < mostRows → getD counts k 0 + inQueue k (drop i (take n xs)) ≡ getD first k 0 + inQueue k (take n xs)
 
 module _ (first : List ℕ) (xs : List Frame) (n i : ℕ) (counts : List ℕ) (sum : Counting first xs n i counts) where
   -- no counter is large
-  pub below : (m : ℕ) → Counts m first → n ≤ 32 → Counts (m + 32) counts
+  pub below : (m : ℕ) → Counts m first → n ≤ classPlaces → Counts (m + classPlaces) counts
   below m few h k g =
       let long : length (take n xs) ≤ n = rw length-take (omega arith) in
       omega (arith, sum k g, few k g, queue-most k (take n xs))
@@ -62,13 +64,13 @@ module _ (first : List ℕ) (xs : List Frame) (n i : ℕ) (counts : List ℕ) (s
       omega arith
 
 -- no counter is large after a queue
-pub still-few : (m n : ℕ) (xs : List Frame) (before after : List ℕ) → n ≤ 32 → Counts m before → Counted (λ k. inQueue k (take n xs)) before after → Counts (m + 32) after
+pub still-few : (m n : ℕ) (xs : List Frame) (before after : List ℕ) → n ≤ classPlaces → Counts m before → Counted (λ k. inQueue k (take n xs)) before after → Counts (m + classPlaces) after
 still-few m n xs before after h few sum k g =
     let long : length (take n xs) ≤ n = rw length-take (omega arith) in
     omega (arith, sum k g, few k g, queue-most k (take n xs))
 
-pub no-frames : Counts 0 (replicate 32 0)
-no-frames k h = rw (getD-replicate {A = ℕ} 32 k 0 0 h) (omega arith)
+pub no-frames : Counts 0 (replicate mostRows 0)
+no-frames k h = rw (getD-replicate {A = ℕ} mostRows k 0 0 h) (omega arith)
 
 -- ---- a test of the first n numbers
 module _ (n : ℕ) (ok : ℕ → Bool) where
@@ -87,10 +89,10 @@ up-to-same zero ok too e = refl
 up-to-same (suc n) ok too e = rw (up-to-same n ok too (λ k h. e k (omega arith)), e n (omega arith)) refl
 
 -- the counters of both queues and of the wire
-pub all-held : (most : ℕ → ℕ) (n : ℕ) (xs ys : List Frame) (w : Wire) (a b all : List ℕ) → n ≤ 32 → Counted (λ k. inQueue k xs) (replicate 32 0) a → Counted (λ k. inQueue k ys) a b → Counted (λ k. sending k w) b all → upTo n (λ k. leb (getD all k 0) (most k)) ≡ upTo n (λ k. leb (inQueue k xs + inQueue k ys + sending k w) (most k))
+pub all-held : (most : ℕ → ℕ) (n : ℕ) (xs ys : List Frame) (w : Wire) (a b all : List ℕ) → n ≤ mostRows → Counted (λ k. inQueue k xs) (replicate mostRows 0) a → Counted (λ k. inQueue k ys) a b → Counted (λ k. sending k w) b all → upTo n (λ k. leb (getD all k 0) (most k)) ≡ upTo n (λ k. leb (inQueue k xs + inQueue k ys + sending k w) (most k))
 all-held most n xs ys w a b all h of-a of-b of-w = up-to-same n (λ k. leb (getD all k 0) (most k)) (λ k. leb (inQueue k xs + inQueue k ys + sending k w) (most k)) same
   where
     same : (k : ℕ) → k < n → leb (getD all k 0) (most k) ≡ leb (inQueue k xs + inQueue k ys + sending k w) (most k)
     same k g =
-        let e : getD all k 0 ≡ inQueue k xs + inQueue k ys + sending k w = omega (arith, of-a k (omega arith), of-b k (omega arith), of-w k (omega arith), getD-replicate {A = ℕ} 32 k 0 0 (omega arith)) in
+        let e : getD all k 0 ≡ inQueue k xs + inQueue k ys + sending k w = omega (arith, of-a k (omega arith), of-b k (omega arith), of-w k (omega arith), getD-replicate {A = ℕ} mostRows k 0 0 (omega arith)) in
         rw e refl

@@ -28,7 +28,7 @@ framesTest limits s =
 unfoldable pub rowsTest : State → Bool
 rowsTest s = rowsTaken s && heldSound s
 
--- Counters of the 32 row numbers, none above n.
+-- Counters of the row numbers, none above n.
 abbrev pub Counts : ℕ → List ℕ → Type 0
 Counts n counts = (k : ℕ) → k < mostRows → getD counts k 0 ≤ n
 

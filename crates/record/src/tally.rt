@@ -1,5 +1,5 @@
 // How many frames of each row are in a record.
-ghost use Prim.Native.Nat.{_+_, _≤_};
+ghost use Prim.Native.Nat.{_+_, _*_, _≤_};
 ghost use lib.Dec.{eqb};
 ghost use lib.ListN.{getD, take};
 ghost use Rattle.table.specs.Limits.{mostRows};
@@ -13,7 +13,7 @@ use table::ROWS;
 
 // One frame more. A source that is no row's number is not counted.
 fn with_source(counts: [u8; ROWS], source: u32) -> [u8; ROWS]
-    requires { ⌜ Counts 200 counts ⌝ }
+    requires { ⌜ Counts (2 * classPlaces) counts ⌝ }
     ensures { λ r. ⌜ Counted (λ k. count (eqb source k)) counts r ⌝ }
 {
     let k = source as usize;
@@ -26,7 +26,7 @@ fn with_source(counts: [u8; ROWS], source: u32) -> [u8; ROWS]
 
 // The frames that wait in a class's queue. (`with_source` for each would copy the counters each time.)
 fn with_queue(counts: [u8; ROWS], q: Queue) -> [u8; ROWS]
-    requires { ⌜ Counts 100 counts ⌝ }
+    requires { ⌜ Counts classPlaces counts ⌝ }
     requires { ⌜ q .count ≤ classPlaces ⌝ }
     ensures { λ r. ⌜ Counted (λ k. inQueue k (take (q .count) (q .frames))) counts r ⌝ }
 {
@@ -46,7 +46,7 @@ fn with_queue(counts: [u8; ROWS], q: Queue) -> [u8; ROWS]
 
 // The frame on the wire, if there is one.
 fn with_wire(counts: [u8; ROWS], w: Wire) -> [u8; ROWS]
-    requires { ⌜ Counts 100 counts ⌝ }
+    requires { ⌜ Counts (2 * classPlaces) counts ⌝ }
     ensures { λ r. ⌜ Counted (λ k. sending k w) counts r ⌝ }
 {
     match w {

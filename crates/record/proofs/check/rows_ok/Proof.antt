@@ -5,10 +5,11 @@ use mathlib.Core.List.{map}
 use mathlib.Core.Path.{_≡_, refl}
 use lib.Dec.{leb}
 use lib.ListN.{take}
+use Rattle.table.specs.Limits.{mostRows}
 use Rattle.table.specs.Rows.{contents}
 use Rattle.table.proofs.Laws as table
 use Rattle.machine.specs.declared.Port.{Port}
-use Rattle.machine.specs.Limits.{mostOf}
+use Rattle.machine.specs.Limits.{classPlaces, mostOf}
 use Rattle.machine.specs.State.{instantOf, view}
 use Rattle.machine.specs.Record.{noneAfter, inQueue, sending, held, upTo, rowsTaken, heldSound}
 use Rattle.machine.proofs.Places.{Places, port-places, waits, instants-few}
@@ -24,7 +25,7 @@ past p = noneAfter (p .clock) (map instantOf (take (p .table .count) (p .last)))
 abbrev once : Port → Bool
 once p = upTo (p .table .count) (λ k. leb (inQueue k (take (p .a .count) (p .a .frames)) + inQueue k (take (p .b .count) (p .b .frames)) + sending k (p .wire)) (mostOf (contents (p .table)) k))
 
-module _ (p : Port) (places : Places p) (few : p .table .count ≤ 32) (a : p .a .count ≤ 32) (b : p .b .count ≤ 32) where
+module _ (p : Port) (places : Places p) (few : p .table .count ≤ mostRows) (a : p .a .count ≤ classPlaces) (b : p .b .count ≤ classPlaces) where
   by-parts : rowsTest (view p) ≡ (past p && once p)
   unfolding view rowsTest rowsTaken heldSound held
   by-parts = rw (table.rows-length (p .table), instants-few (p .table .count) (p .last) (rw (places .last) few), waits (p .a .count) (p .a .frames) (rw (places .a) a), waits (p .b .count) (p .b .frames) (rw (places .b) b)) refl

@@ -1,6 +1,7 @@
 -- `record::tally::with_source` meets its contract, number by number.
 use borrow.Kind.Array.{good-length, eInt}
 use mir.Syntax.{w8}
+use Rattle.table.specs.Limits.{mostRows}
 use Rattle.record.proofs.Counting.{counted, not-counted}
 use native.Mathlib.Omega.{arith}
 use borrow.Author.Needs.{needs}
@@ -17,7 +18,7 @@ array-write-next : tie.Need-array-write-next
 array-write-next c = search needs
 
 returns : tie.Need-returns
-returns c = counted (c .before .args .counts) (c .before .args .source) (good-length (eInt w8) 32 (c .before .args .counts) _ (c .before .good .0)) (c .if1 .taken)
+returns c = counted (c .before .args .counts) (c .before .args .source) (good-length (eInt w8) mostRows (c .before .args .counts) _ (c .before .good .0)) (c .if1 .taken)
 
 returns-2 : tie.Need-returns-2
 returns-2 c = not-counted (c .before .args .counts) (c .before .args .source) (c .if1 .left)
