@@ -4,7 +4,7 @@ use mathlib.Core.Bool.{Bool, true, false, cond, false≢true}
 use mathlib.Core.List.{List, [], _∷_}
 use mathlib.Core.Logic.{_↔_, ⊎-elim}
 use mathlib.Core.Path.{_≡_, refl}
-use native.Mathlib.Nat.{le-refl, add-le-add, mul-add, add-mul, lt-of-mul-lt-mul-left, lt-of-le-of-lt, add-assoc, lt-mul-div-succ, mul-le-mul, suc-mul, max-le, eq-zero-or-pos}
+use native.Mathlib.Nat.{mul-add, add-mul, lt-of-mul-lt-mul-left, lt-of-le-of-lt, add-assoc, lt-mul-div-succ, mul-le-mul, max-le, eq-zero-or-pos}
 use native.Mathlib.Omega.{arith}
 use lib.ListN.{length}
 use borrow.Author.Tests.{leb-true, le-leb, eq-eqb, ne-eqb, eqb-true}
@@ -39,23 +39,7 @@ pub shares-sum : (c : Class) (t : Contents) → shares c t ≡ sumOver c shareOf
 unfolding shares
 shares-sum c t = refl
 
-sum-grows : (c : Class) {f g : Row → ℕ} → ((r : Row) → f r ≤ g r) → (rs : List Row) → sumOver c f rs ≤ sumOver c g rs
-unfolding sumOver
-sum-grows c {f} {g} h [] = le-refl 0
-sum-grows c {f} {g} h (r ∷ rs) = add-le-add (go (inClass c r)) (sum-grows c h rs)
-  where
-    go : (b : Bool) → cond b (f r) 0 ≤ cond b (g r) 0
-    go true = h r
-    go false = le-refl 0
-
--- a sum is at least any part of it
-sum-part : (c : Class) (f : Row → ℕ) (keep : Row → Bool) (rs : List Row) → sumOver c (λ r. cond (keep r) (f r) 0) rs ≤ sumOver c f rs
-sum-part c f keep rs = sum-grows c (λ r. go r (keep r)) rs
-  where
-    go : (r : Row) (b : Bool) → cond b (f r) 0 ≤ f r
-    go r true = le-refl (f r)
-    go r false = omega arith
-
+-- the largest of a class is at most what each row is at most
 part-most : (c : Class) (f : Row → ℕ) (m : ℕ) (r : Row) → f r ≤ m → part c f r ≤ m
 part-most c f m r h = go (inClass c r)
   where
@@ -67,11 +51,6 @@ max-most : (c : Class) (f : Row → ℕ) (m : ℕ) (rs : List Row) → Every (λ
 unfolding maxOver
 max-most c f m [] e = omega arith
 max-most c f m (r ∷ rs) e = max-le (part-most c f m r (e .0)) (max-most c f m rs (e .1))
-
-sum-most : (c : Class) (f : Row → ℕ) (m : ℕ) (rs : List Row) → Every (λ r. f r ≤ m) rs → sumOver c f rs ≤ length rs * m
-unfolding sumOver
-sum-most c f m [] e = omega arith
-sum-most c f m (r ∷ rs) e = rw (suc-mul (length rs) m) (omega (arith, part-most c f m r (e .0), sum-most c f m rs (e .1)))
 
 -- ---- an accepted table is one that opening accepts
 used-iff : (c : Class) (t : Contents) → usedOk c t ≡ true → (idle c t ≡ 0) ↔ (members c t ≡ 0)
