@@ -62,7 +62,7 @@ three-true x y z e =
     let q = table.and-true x y (p .0) in
     (q .0, q .1, p .1)
 
-four-true : (x y z w : Bool) → ((x && y) && (z && w)) ≡ true → (x ≡ true) × (y ≡ true) × (z ≡ true) × (w ≡ true)
+pub four-true : (x y z w : Bool) → ((x && y) && (z && w)) ≡ true → (x ≡ true) × (y ≡ true) × (z ≡ true) × (w ≡ true)
 four-true x y z w e =
     let p = three-true x y (z && w) e in
     let q = table.and-true z w (p .2) in

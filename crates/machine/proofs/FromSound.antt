@@ -27,9 +27,9 @@ use Rattle.machine.proofs.OneClass.{All}
 use Rattle.machine.proofs.Invariant.{named-owner}
 use Rattle.machine.proofs.Age.{Young, YoungBy, YoungOn, Youth, none-held}
 use Rattle.machine.proofs.Space.{place-for}
-use Rattle.machine.proofs.Clauses.{Passes, AllPass, each-passes, three-true, unnamed, names-parts, taken-parts}
--- each of the document's clauses as a fact
-pub use Rattle.machine.proofs.Clauses.{up-to-true, Clauses, clauses}
+use Rattle.machine.proofs.Clauses.{Passes, AllPass, each-passes, unnamed, names-parts, taken-parts}
+-- each of the document's clauses as a fact, and the facts of a clause that is made of tests
+pub use Rattle.machine.proofs.Clauses.{up-to-true, three-true, four-true, Clauses, clauses}
 
 accepted-true : (o : Outcome) → isAccepted o ≡ true → o ≡ accepted
 accepted-true accepted e = refl

@@ -19,7 +19,7 @@ use Rattle.machine.specs.declared.Wire.the-variants.{Free, Sending}
 use Rattle.machine.specs.State.{Instant, never, State}
 use Rattle.machine.specs.Time.{shaped, unshaped, owner}
 use Rattle.machine.specs.Record.{allOf, onSending, namesRow, isBest, rowIn, sizeWithin, rowSize, sizeBy, takenBy, rowOnly, isAt, tableSound, clockSound, creditSound, bestSound, namesSound, queuesSound, sizesSound, leftSound, framesTaken, rowsTaken, heldSound, latestSound, ageSound, sound}
-use Rattle.machine.proofs.FromSound.{Clauses, clauses}
+use Rattle.machine.proofs.FromSound.{three-true, four-true, Clauses, clauses}
 use Rattle.frames.specs.Tests.{rowTest, frameTest, bestTest, sendingTest}
 use Rattle.record.specs.Steps.{numbersTest, framesTest, rowsTest}
 
@@ -28,18 +28,6 @@ pub same-test : (x y : Bool) → (x ≡ true → y ≡ true) → (y ≡ true →
 same-test true y f g = sym (f refl)
 same-test false true f g = g refl
 same-test false false f g = refl
-
-three : (x y z : Bool) → ((x && y) && z) ≡ true → (x ≡ true) × (y ≡ true) × (z ≡ true)
-three x y z e =
-    let p = table.and-true (x && y) z e in
-    let q = table.and-true x y (p .0) in
-    (q .0, q .1, p .1)
-
-four : (x y z w : Bool) → ((x && y) && (z && w)) ≡ true → (x ≡ true) × (y ≡ true) × (z ≡ true) × (w ≡ true)
-four x y z w e =
-    let p = three x y (z && w) e in
-    let q = table.and-true z w (p .2) in
-    (p .0, p .1, q .0, q .1)
 
 all-same : (x y : Frame → Bool) → ((f : Frame) → x f ≡ y f) → (q : List Frame) → allOf x q ≡ allOf y q
 all-same x y e [] = refl
@@ -255,12 +243,12 @@ module _ (s : State) where
   of-clauses : Clauses s → OfFrames
   unfolding namesSound queuesSound sizesSound leftSound framesTaken latestSound ageSound
   of-clauses c =
-      let n = three _ _ _ (c .names) in
-      let q = three _ _ _ (c .queues) in
-      let z = four _ _ _ _ (c .sizes) in
-      let k = four _ _ _ _ (c .frames) in
-      let l = three _ _ _ (c .latest) in
-      let y = three _ _ _ (c .age) in
+      let n = three-true _ _ _ (c .names) in
+      let q = three-true _ _ _ (c .queues) in
+      let z = four-true _ _ _ _ (c .sizes) in
+      let k = four-true _ _ _ _ (c .frames) in
+      let l = three-true _ _ _ (c .latest) in
+      let y = three-true _ _ _ (c .age) in
       record {
         a = record { names = n .0; class = q .0; sizes = z .0; taken = k .0; latest = l .0; young = y .0 };
         b = record { names = n .1; class = q .1; sizes = z .1; taken = k .1; latest = l .1; young = y .1 };
