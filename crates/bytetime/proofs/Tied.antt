@@ -18,6 +18,7 @@ use Rattle.machine.specs.declared.Wire.{Wire}
 use Rattle.machine.specs.declared.Wire.the-variants.{Free, Sending}
 use Rattle.machine.specs.State.{Instant, State}
 use Rattle.machine.specs.Time.{Owner, shaped, unshaped, owner, owns, onWire, ready, headOut, behindHead, sendOf, sendBest, startOn, start, earned, earn, wireAfter, reportedIn, pass, settled, settle, byteTime, endsIn, Progress, further, onward, progress}
+use Rattle.machine.proofs.Places.{byte-clock}
 use Rattle.bytetime.specs.declared.Sender.{Sender}
 use Rattle.bytetime.specs.declared.Sender.the-variants.{Nobody, ClassA, ClassB, BestEffort}
 use Rattle.bytetime.specs.declared.Hot.{Hot}
@@ -328,19 +329,6 @@ module _ (s₀ : State) (fits : Fits s₀) where
         let g = startedHot h x in
         ap reportedIn (on-wire (start s) g (starts s h t going) (starts-whole s h t going)) ∙ ends (g .sender) (frameOf s₀ g) (g .left) (starts-whole s h t going)
 
-  ticks-clock : (s : State) → byteTime s .clock ≡ suc (s .clock)
-  unfolding byteTime start
-  ticks-clock s = by-wire (s .wire)
-    where
-      by-wire : (v : Wire) → suc (startOn v s .clock) ≡ suc (s .clock)
-      by-wire Free = either (ready (s .credita) (s .a)) (ready (s .creditb) (s .b))
-        where
-          either : (b c : Bool) → suc (cond b (sendOf A s) (cond c (sendOf B s) (sendBest s)) .clock) ≡ suc (s .clock)
-          either true c = refl
-          either false true = refl
-          either false false = refl
-      by-wire (Sending f left) = refl
-
   -- ---- the machine's progress and the run on numbers say the same
   record Agree (p : Progress) (r : Ran) : Type 0 where
     passed : p .passed ≡ r .passed
@@ -362,7 +350,7 @@ module _ (s₀ : State) (fits : Fits s₀) where
             passed = ap suc (a .passed);
             ended = ends-here (p .state) (r .hot) (a .tied) o;
             over = refl;
-            clock = ticks-clock (p .state) ∙ omega (arith, a .clock);
+            clock = byte-clock (p .state) ∙ omega (arith, a .clock);
             tied = ticks (p .state) (r .hot) (a .tied) o;
           })
 

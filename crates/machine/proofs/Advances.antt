@@ -42,7 +42,7 @@ start-same s = by-wire (s .wire)
     by-wire (Sending f l) = same
 
 -- ---- one byte-time
-byte-clock : (s : State) → byteTime s .clock ≡ suc (s .clock)
+pub byte-clock : (s : State) → byteTime s .clock ≡ suc (s .clock)
 unfolding byteTime
 byte-clock s = ap suc (start-same s .clock)
 

@@ -20,6 +20,8 @@ use Rattle.machine.specs.Limits.{classPlaces, bestPlaces}
 use Rattle.machine.specs.State.{Instant, never, noFrame, waiting, instantOf, instantsOf, Places}
 -- the record itself, and what an unused place may hold
 pub use Rattle.machine.specs.State.{zeroFrame, zeroLast, Places}
+-- a byte-time is one on the clock
+pub use Rattle.machine.proofs.Advances.{byte-clock}
 use Rattle.machine.specs.Record.{allOf}
 use Rattle.machine.proofs.Queue as queue
 use Rattle.machine.proofs.BestQueue as best
