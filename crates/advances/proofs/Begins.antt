@@ -1,6 +1,6 @@
 -- What a sound port has for the byte-times on its numbers, and what they leave.
 use Prim.Native.Nat.{ℕ, suc, _-_, _*_, _≤_}
-use mathlib.Core.Bool.{Bool, true, false, cond, _&&_}
+use mathlib.Core.Bool.{Bool, true, false, cond, _&&_, false≢true}
 use mathlib.Core.List.{List, [], _∷_}
 use mathlib.Core.Path.{_≡_, refl, sym, _∙_, ap}
 use native.Mathlib.Nat.{mul-le-mul}
@@ -34,14 +34,11 @@ use Rattle.bytetime.specs.Bytes.{runHot, reach, nearHot, stepsOf}
 use Rattle.bytetime.specs.Ports.{hotOf, fixedOf, HeadFits, Fits, SameRun}
 use Rattle.bytetime.proofs.Tied.{as-machine}
 
-never : {X : Type 0} → false ≡ true → X
-never e = let z : _≡_ {A = ℕ} 0 1 = cc in absurd (omega arith)
-
 module _ (s : State) (c : Clauses s) where
   -- ---- the heads of the queues
   row-head : (d : Class) (q : List Frame) → allOf (namesRow (s .table)) q ≡ true → allOf (rowIn d (s .table)) q ≡ true → allOf (rowSize (s .table)) q ≡ true → HeadFits (s .table) (shaped d) q
   unfolding owner
-  row-head d [] n i z = record { owned = λ e. never e; bytes = λ e. never e }
+  row-head d [] n i z = record { owned = λ e. absurd (false≢true e); bytes = λ e. absurd (false≢true e) }
   row-head d (f ∷ q) n i z =
       let named = table.and-true (namesRow (s .table) f) _ n .0 in
       let inside = table.same-is d _ (table.and-true (rowIn d (s .table) f) _ i .0) in
@@ -50,7 +47,7 @@ module _ (s : State) (c : Clauses s) where
 
   best-head : (q : List Frame) → allOf isBest q ≡ true → (most : ℕ) → allOf (sizeWithin most) q ≡ true → HeadFits (s .table) unshaped q
   unfolding owner
-  best-head [] b most z = record { owned = λ e. never e; bytes = λ e. never e }
+  best-head [] b most z = record { owned = λ e. absurd (false≢true e); bytes = λ e. absurd (false≢true e) }
   best-head (f ∷ q) b most z =
       let marked = eqb-true (f .source) 32 (table.and-true (isBest f) _ b .0) in
       let out : length (s .table .rows) ≤ f .source = omega (arith, law.rows-most (s .table) (is-accepted s c)) in
@@ -140,7 +137,7 @@ module _ (p : Port) (places : Places p) (ok : sound (view p) ≡ true) where
     where
       by-test : (b : Bool) → leb (q .count) classPlaces ≡ b → q .count ≤ classPlaces
       by-test true z = leb-true _ _ z
-      by-test false z = never (too-many (rowSize (contents (p .table))) (q .count) (q .frames) refl (rw long (leb-false _ _ z)) ∙ e)
+      by-test false z = absurd (false≢true (too-many (rowSize (contents (p .table))) (q .count) (q .frames) refl (rw long (leb-false _ _ z)) ∙ e))
 
   pub few-a : p .a .count ≤ classPlaces
   unfolding view

@@ -1,6 +1,6 @@
 -- Signed numbers of 64 bits: what their tests say, and how large a sum can be.
 use Prim.Native.Nat.{ℕ, zero, suc, _+_, _-_, _≤_, _<_, _^_}
-use mathlib.Core.Bool.{Bool, true, false, cond}
+use mathlib.Core.Bool.{Bool, true, false, cond, true≢false, false≢true}
 use mathlib.Core.Path.{_≡_, refl, sym, _∙_, ap}
 use native.Mathlib.Omega.{arith}
 use lib.IntN.{ℤ, pos, negsuc, subℕ, _+ℤ_, _-ℤ_}
@@ -23,13 +23,10 @@ small h = record { sfits = h }
 pub natural : {n : ℕ} → n < 2 ^ 63 → toZ w64 n ≡ pos n
 natural h = toZ-pos w64 h
 
-never : {X : Type 0} → false ≡ true → X
-never e = let z : _≡_ {A = ℕ} 0 1 = cc in absurd (omega arith)
-
 -- ---- tests around zero
 above : (z : ℤ) → ltZ (pos 0) z ≡ true → pos 0 ≡ upToZero z
 above (pos n) e = refl
-above (negsuc n) e = never e
+above (negsuc n) e = absurd (false≢true e)
 
 not-above : (z : ℤ) → ltZ (pos 0) z ≡ false → z ≡ upToZero z
 not-above (pos n) e = ap pos (omega (arith, ltb-false 0 n e))
@@ -54,7 +51,7 @@ rises (negsuc n) i = sym (at-most-zero (negsuc n +ℤ pos i))
 -- a class may send exactly when its credit is at least 0
 may-send : (z : ℤ) (waits : Bool) → ltZ z (pos 0) ≡ false → waits ≡ readyBy z waits
 may-send (pos n) waits e = refl
-may-send (negsuc n) waits e = never (sym e)
+may-send (negsuc n) waits e = absurd (true≢false e)
 
 may-not-send : (z : ℤ) (waits : Bool) → ltZ z (pos 0) ≡ true → false ≡ readyBy z waits
 may-not-send (pos n) waits e = absurd (omega (arith, ltb-true n 0 e))

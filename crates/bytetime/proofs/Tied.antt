@@ -1,6 +1,6 @@
 -- The numbers of byte-times stand for the machine's state, start after start and byte after byte.
 use Prim.Native.Nat.{ℕ, zero, suc, _+_, _-_, _≤_}
-use mathlib.Core.Bool.{Bool, true, false, cond, not, _&&_}
+use mathlib.Core.Bool.{Bool, true, false, cond, not, _&&_, true≢false, false≢true}
 use mathlib.Core.List.{List, [], _∷_}
 use mathlib.Core.Path.{_≡_, refl, sym, _∙_, ap}
 use native.Mathlib.Omega.{arith}
@@ -26,9 +26,6 @@ use Rattle.bytetime.specs.declared.Fixed.{Fixed}
 use Rattle.bytetime.specs.declared.Ran.{Ran}
 use Rattle.bytetime.specs.Bytes.{earnedWith, settledWith, creditAfter, isA, isB, isBest, isNobody, readyBy, goesA, goesB, goesBest, nextBy, goes, onFree, startedHot, leftAfter, passedHot, tickHot, endedHot, furtherHot, onwardHot, runHot}
 use Rattle.bytetime.specs.Ports.{some, headOf, fixedOf, senderBy, senderOn, leftOn, hotOf, frameOn, frameOf, wireBy, wireNow, queueAfter, afterRun, endedBy, Fits, AsMachine}
-
-never : {X : Type 0} → false ≡ true → X
-never e = let z : _≡_ {A = ℕ} 0 1 = cc in absurd (omega arith)
 
 -- the sender of a frame, by its owner
 abbrev pub Owned : Sender → Owner → Type 0
@@ -141,16 +138,16 @@ pub record Tied (s₀ s : State) (h : Hot) : Type 0 where
 
 is-waiting : (c : ℤ) (waits : Bool) → readyBy c waits ≡ true → waits ≡ true
 is-waiting (pos n) waits e = e
-is-waiting (negsuc n) waits e = never e
+is-waiting (negsuc n) waits e = absurd (false≢true e)
 
 -- a head that goes out is on the wire with all its bytes
 head-out : (q : List Frame) → some q ≡ true → 1 ≤ headOf q .size → headOut q ≡ cond (leb (headOf q .size) 0) Free (Sending (headOf q) (headOf q .size))
-head-out [] e h = never e
+head-out [] e h = absurd (false≢true e)
 head-out (f ∷ fs) e h = rw (lt-leb (f .size) 0 (omega arith)) refl
 
 none-out : (q : List Frame) → some q ≡ false → (headOut q ≡ Free) × (behindHead q ≡ q)
 none-out [] e = (refl, refl)
-none-out (f ∷ fs) e = let z : _≡_ {A = ℕ} 0 1 = cc in absurd (omega arith)
+none-out (f ∷ fs) e = absurd (true≢false e)
 
 -- step 1
 module _ (s₀ : State) (fits : Fits s₀) where
@@ -183,7 +180,7 @@ module _ (s₀ : State) (fits : Fits s₀) where
           waitsa = rw whole-a refl;
           waitsb = t .waitsb;
           waitsbest = t .waitsbest;
-          idle = λ z. never z;
+          idle = λ z. absurd (false≢true z);
           wire = ap headOut whole-a ∙ head-out (s₀ .a) w (fits .a .bytes w);
           owned = fits .a .owned w;
         }
@@ -203,7 +200,7 @@ module _ (s₀ : State) (fits : Fits s₀) where
           waitsa = t .waitsa;
           waitsb = rw whole-b refl;
           waitsbest = t .waitsbest;
-          idle = λ z. never z;
+          idle = λ z. absurd (false≢true z);
           wire = ap headOut whole-b ∙ head-out (s₀ .b) w (fits .b .bytes w);
           owned = fits .b .owned w;
         }
@@ -223,7 +220,7 @@ module _ (s₀ : State) (fits : Fits s₀) where
           waitsa = t .waitsa;
           waitsb = t .waitsb;
           waitsbest = t .waitsbest;
-          idle = λ z. never z;
+          idle = λ z. absurd (false≢true z);
           wire = ap headOut whole-best ∙ head-out (s₀ .best) w (fits .best .bytes w);
           owned = fits .best .owned w;
         }

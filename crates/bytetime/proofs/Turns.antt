@@ -1,6 +1,6 @@
 -- A stretch, byte-time after byte-time: what a turn of its loop finds and leaves.
 use Prim.Native.Nat.{ℕ, _+_, _-_, _*_, _≤_, _<_}
-use mathlib.Core.Bool.{Bool, true, false, _&&_}
+use mathlib.Core.Bool.{Bool, true, false, _&&_, false≢true}
 use mathlib.Core.Path.{_≡_, refl, sym, _∙_, ap}
 use native.Mathlib.Numerals.{add-one}
 use native.Mathlib.Omega.{arith}
@@ -74,9 +74,9 @@ module _ (h : Hot) (x : Fixed) where
   no-best free s = by-heads (readyBy (h .credita) (h .waitsa)) (readyBy (h .creditb) (h .waitsb)) (h .waitsbest) refl (ap (λ (g : Hot). isNobody (g .sender)) (rw free at s) ∙ free)
     where
       by-heads : (a b best : Bool) → h .waitsbest ≡ best → isNobody (goes (nextBy a b best) h x .sender) ≡ true → h .waitsbest ≡ false
-      by-heads true b best e q = let z : _≡_ {A = ℕ} 0 1 = cc in absurd (omega arith)
-      by-heads false true best e q = let z : _≡_ {A = ℕ} 0 1 = cc in absurd (omega arith)
-      by-heads false false true e q = let z : _≡_ {A = ℕ} 0 1 = cc in absurd (omega arith)
+      by-heads true b best e q = absurd (false≢true q)
+      by-heads false true best e q = absurd (false≢true q)
+      by-heads false false true e q = absurd (false≢true q)
       by-heads false false false e q = e
 
   pub free-again : isNobody (h .sender) ≡ true → startedHot h x ≡ h → {i : ℕ} {ra rb : ℤ} {left : ℕ} → runHot i h x ≡ ranWith h ra rb left i false → readyBy ra (h .waitsa) ≡ false → readyBy rb (h .waitsb) ≡ false → Turn i ra rb left

@@ -1,8 +1,8 @@
 -- Frames counted by their rows: one frame more, a queue place by place, and a test of the counters of the rows in use.
 use Prim.Native.Nat.{ℕ, zero, suc, _+_, _≤_, _<_}
-use mathlib.Core.Bool.{Bool, true, false}
+use mathlib.Core.Bool.{Bool, true, false, false≢true}
 use mathlib.Core.List.{List, [], _∷_}
-use mathlib.Core.Path.{_≡_, refl, sym}
+use mathlib.Core.Path.{_≡_, refl, sym, _∙_}
 use native.Mathlib.Nat.{add-zero}
 use native.Mathlib.Numerals.{add-one}
 use native.Mathlib.Omega.{arith}
@@ -78,7 +78,7 @@ module _ (n : ℕ) (ok : ℕ → Bool) where
   fails-at k h e = go (upTo n ok) refl
     where
       go : (b : Bool) → upTo n ok ≡ b → false ≡ upTo n ok
-      go true p = let z : _≡_ {A = ℕ} 0 1 = cc (up-to-true n ok p k h) in absurd (omega arith)
+      go true p = absurd (false≢true (sym e ∙ up-to-true n ok p k h))
       go false p = sym p
 
   pub up-to-next : ok n ≡ true → upTo n ok ≡ true → upTo (n + 1) ok ≡ true

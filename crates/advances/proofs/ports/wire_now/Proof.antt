@@ -1,6 +1,6 @@
 -- `advances::ports::wire_now` meets its contract.
 use Prim.Native.Nat.{ℕ}
-use mathlib.Core.Bool.{true, false}
+use mathlib.Core.Bool.{true, false, true≢false, false≢true}
 use mathlib.Core.Path.{_≡_, refl, sym, _∙_, subst}
 use native.Mathlib.Omega.{arith}
 use borrow.Author.Tests.{lt-leb}
@@ -14,9 +14,6 @@ use borrow.Author.Needs.{needs}
 use Rattle.advances.proofs.ports.wire_now.Statement.{statement}
 use Rattle.advances.proofs.ports.wire_now.Tie as tie
 
-never : {X : Type 0} → false ≡ true → X
-never e = let z : _≡_ {A = ℕ} 0 1 = cc in absurd (omega arith)
-
 none-left : (w : Sender) (f : Frame) (left : ℕ) → left ≡ 0 → Free ≡ wireNow w f left
 none-left w f left e = subst (λ (n : ℕ). Free ≡ wireNow w f n) (sym e) (by-sender w)
   where
@@ -28,12 +25,12 @@ none-left w f left e = subst (λ (n : ℕ). Free ≡ wireNow w f n) (sym e) (by-
 
 nobody : (w : Sender) (f : Frame) (left : ℕ) → isNobody w ≡ true → Free ≡ wireNow w f left
 nobody Nobody f left e = refl
-nobody ClassA f left e = never e
-nobody ClassB f left e = never e
-nobody BestEffort f left e = never e
+nobody ClassA f left e = absurd (false≢true e)
+nobody ClassB f left e = absurd (false≢true e)
+nobody BestEffort f left e = absurd (false≢true e)
 
 someone : (w : Sender) (f : Frame) (left : ℕ) → (left ≡ 0 → ⊥) → isNobody w ≡ false → Sending f left ≡ wireNow w f left
-someone Nobody f left n e = never (sym e)
+someone Nobody f left n e = absurd (true≢false e)
 someone ClassA f left n e = rw (lt-leb left 0 (omega (arith, n))) refl
 someone ClassB f left n e = rw (lt-leb left 0 (omega (arith, n))) refl
 someone BestEffort f left n e = rw (lt-leb left 0 (omega (arith, n))) refl

@@ -1,10 +1,10 @@
 -- `bytetime::run::within` meets its contract, by the sign of the credit.
-use mathlib.Core.Bool.{true, false}
+use mathlib.Core.Bool.{true, false, false≢true}
 use mathlib.Core.Path.{_≡_, refl, sym}
 use native.Mathlib.Omega.{arith}
 use lib.IntN.{ℤ, pos, negsuc}
 use lib.Signed.{ltZ, leZ}
-use Prim.Native.Nat.{ℕ, suc}
+use Prim.Native.Nat.{suc}
 use mir.Syntax.{w64}
 use mir.Val.{SFits, toZ, ofZ}
 use borrow.Author.Tests.{ltb-true, ltb-false, le-leb, lt-leb}
@@ -16,7 +16,7 @@ use Rattle.bytetime.proofs.run.within.Statement.{statement}
 use Rattle.bytetime.proofs.run.within.Tie as tie
 
 below : (z : ℤ) → ltZ z (negsuc 2305843009213693951) ≡ true → false ≡ between reach reach z
-below (pos n) e = let w : _≡_ {A = ℕ} 0 1 = cc in absurd (omega arith)
+below (pos n) e = absurd (false≢true e)
 below (negsuc n) e = sym (lt-leb (suc n) reach (omega (arith, ltb-true 2305843009213693951 n e)))
 
 above : (z : ℤ) → ltZ z (negsuc 2305843009213693951) ≡ false → leZ z (pos reach) ≡ between reach reach z

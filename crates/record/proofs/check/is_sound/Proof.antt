@@ -1,7 +1,6 @@
 -- `record::check::is_sound` meets its contract: the planner's verdict is the first clause, and its figures are the definitions'.
-use Prim.Native.Nat.{ℕ}
+use mathlib.Core.Bool.{false≢true}
 use mathlib.Core.Path.{_≡_, refl, sym, _∙_, ap}
-use native.Mathlib.Omega.{arith}
 use Rattle.table.specs.Rows.{Contents, contents}
 use Rattle.table.specs.declared.Verdict.the-variants.{Accepted}
 use Rattle.table.specs.declared.Class.the-variants.{A, B}
@@ -40,7 +39,7 @@ returns : tie.Need-returns
 returns c =
     let s = c .before .before .before .before in
     let e = refused-table (s .args .p) (c .before .before .plan .ensures .verdict) (c .enum-told .given .1) in
-    broken (view (s .args .p)) (λ t. let z : _≡_ {A = ℕ} 0 1 = cc (t .table) in omega arith)
+    broken (view (s .args .p)) (λ t. false≢true (sym e ∙ t .table))
 
 enum-told-2 : tie.Need-enum-told-2
 enum-told-2 c = search needs

@@ -1,9 +1,8 @@
 -- `record::check::parts_ok` meets its contract: a record that fails a test is broken, and one that passes the others is sound if its rows pass.
 use Prim.Native.Nat.{ℕ, _≤_}
-use mathlib.Core.Bool.{Bool, true, false}
+use mathlib.Core.Bool.{Bool, true, false, false≢true}
 use mathlib.Core.List.{List}
-use mathlib.Core.Path.{_≡_, refl, _∙_}
-use native.Mathlib.Omega.{arith}
+use mathlib.Core.Path.{_≡_, refl, sym, _∙_}
 use Rattle.table.specs.declared.Table.{Table}
 use Rattle.table.specs.Limits.{mostRows}
 use Rattle.table.specs.Rows.{contents}
@@ -24,7 +23,7 @@ use Rattle.record.proofs.check.parts_ok.Statement.{statement}
 use Rattle.record.proofs.check.parts_ok.Tie as tie
 
 never-both : {x : Bool} → x ≡ false → x ≡ true → ⊥
-never-both e f = let z : _≡_ {A = ℕ} 0 1 = cc in omega arith
+never-both e f = false≢true (sym e ∙ f)
 
 few : (t : Table) → opening (contents t) ≡ accepted → t .count ≤ mostRows
 few t e = rw (table.rows-length t) at (law.accepted-if (contents t) e .ranges .most)

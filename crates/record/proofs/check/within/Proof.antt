@@ -1,6 +1,6 @@
 -- `record::check::within` meets its contract, by the signs of the credit and of the lower end.
 use Prim.Native.Nat.{ℕ, zero, suc, _<_, _^_}
-use mathlib.Core.Bool.{true, false}
+use mathlib.Core.Bool.{true, false, true≢false, false≢true}
 use mathlib.Core.Path.{_≡_, refl, sym}
 use native.Mathlib.Omega.{arith}
 use lib.IntN.{ℤ, pos, negsuc, negℤ, _-ℤ_, +ℤ-idl}
@@ -34,14 +34,14 @@ minus-plain n h = rw (minus n h) (toZ-ofZ (minus-fits n h))
 -- ---- the two tests
 below : (low high : ℕ) (z : ℤ) → ltZ z (negℤ (pos low)) ≡ true → false ≡ between low high z
 below zero high (pos n) e = absurd (omega (arith, ltb-true n 0 e))
-below (suc l) high (pos n) e = let w : _≡_ {A = ℕ} 0 1 = cc in absurd (omega arith)
+below (suc l) high (pos n) e = absurd (false≢true e)
 below zero high (negsuc n) e = sym (lt-leb (suc n) 0 (omega arith))
 below (suc l) high (negsuc n) e = sym (lt-leb (suc n) (suc l) (omega (arith, ltb-true l n e)))
 
 above : (low high : ℕ) (z : ℤ) → ltZ z (negℤ (pos low)) ≡ false → leZ z (pos high) ≡ between low high z
 above zero high (pos n) e = refl
 above (suc l) high (pos n) e = refl
-above zero high (negsuc n) e = let w : _≡_ {A = ℕ} 0 1 = cc in absurd (omega arith)
+above zero high (negsuc n) e = absurd (true≢false e)
 above (suc l) high (negsuc n) e = sym (le-leb (suc n) (suc l) (omega (arith, ltb-false l n e)))
 
 module _ (low high : ℕ) (z : ℤ) (l : low < 2 ^ 62) (h : high < 2 ^ 62) (f : SFits w64 z) where
