@@ -1,4 +1,4 @@
--- `advances::ports::ended` meets its contract.
+-- `advances::ports::ended` meets its contract: with a frame ended it is reported, and without one nothing is.
 use borrow.Author.Needs.{needs}
 use Rattle.advances.proofs.ports.ended.Statement.{statement}
 use Rattle.advances.proofs.ports.ended.Tie as tie

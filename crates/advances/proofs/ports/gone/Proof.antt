@@ -1,4 +1,4 @@
--- `advances::ports::gone` meets its contract.
+-- `advances::ports::gone` meets its contract: without a move the conjunction is false, and after one the sender decides.
 use mathlib.Core.Path.{refl}
 use Rattle.advances.proofs.ports.gone.Statement.{statement}
 use Rattle.advances.proofs.ports.gone.Tie as tie

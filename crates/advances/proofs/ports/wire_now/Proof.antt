@@ -1,4 +1,4 @@
--- `advances::ports::wire_now` meets its contract.
+-- `advances::ports::wire_now` meets its contract: with no byte left every sender's wire is free, and with some left only nobody's.
 use Prim.Native.Nat.{ℕ}
 use mathlib.Core.Bool.{true, false, true≢false, false≢true}
 use mathlib.Core.Path.{_≡_, refl, sym, _∙_, subst}

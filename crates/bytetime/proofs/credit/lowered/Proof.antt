@@ -1,4 +1,4 @@
--- `bytetime::credit::lowered` meets its contract, case by case.
+-- `bytetime::credit::lowered` meets its contract: a frame on the wire or waiting keeps the credit, and without one it is that of `up_to_zero`.
 use lib.IntN.{ℤ}
 use Rattle.machine.specs.Time.{upToZero}
 use Rattle.bytetime.proofs.Signs.{small}

@@ -1,4 +1,4 @@
--- `bytetime::run::keeps` meets its contract.
+-- `bytetime::run::keeps` meets its contract: off the wire the conjunction is false, and on it the bytes left decide.
 use mathlib.Core.Path.{refl}
 use Rattle.bytetime.proofs.run.keeps.Statement.{statement}
 use Rattle.bytetime.proofs.run.keeps.Tie as tie

@@ -1,4 +1,4 @@
--- `bytetime::start::started` meets its contract.
+-- `bytetime::start::started` meets its contract: on a free wire it is `on_free`, and where a frame is on the wire nothing starts.
 use mathlib.Core.Path.{sym, _∙_}
 use Rattle.bytetime.proofs.Moves.{starts, holds}
 use borrow.Author.Needs.{needs}

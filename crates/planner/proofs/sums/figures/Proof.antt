@@ -1,3 +1,4 @@
+-- `planner::sums::figures` meets its contract: at i the figures so far, joined with those of the rows from i on, are the whole.
 use Prim.Native.Nat.{_≤_, _-_}
 use mathlib.Core.Path.{_≡_, refl}
 use native.Mathlib.Omega.{arith}

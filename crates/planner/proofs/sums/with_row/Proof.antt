@@ -1,3 +1,4 @@
+-- `planner::sums::with_row` meets its contract: a row of another class adds 0 to each figure, and one of the class adds its own.
 use Prim.Native.Nat.{ℕ, _+_, max}
 use mathlib.Core.Bool.{true, false}
 use mathlib.Core.Path.{_≡_, refl, sym, _∙_}

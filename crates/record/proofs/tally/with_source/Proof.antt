@@ -1,4 +1,4 @@
--- `record::tally::with_source` meets its contract, number by number.
+-- `record::tally::with_source` meets its contract: the source's counter has one more, and the others are as they were.
 use borrow.Kind.Array.{good-length, eInt}
 use mir.Syntax.{w8}
 use Rattle.table.specs.Limits.{mostRows}
