@@ -9,7 +9,7 @@ use Rattle.table.specs.declared.Verdict.{Verdict}
 use Rattle.table.specs.declared.Verdict.the-variants as verdicts
 use Rattle.table.specs.Rows.{contents}
 use Rattle.table.specs.Checks as tables
-use Rattle.table.specs.Checks.{Outcome, accepted, refused, first}
+use Rattle.table.specs.Checks.{Outcome, accepted, refused, first, unlessRefused}
 use Rattle.table.proofs.Laws.{never}
 use Rattle.planner.specs.Opening.{opening}
 use Rattle.tablefile.specs.declared.Fault.{Fault}
@@ -19,7 +19,7 @@ use Rattle.tablefile.specs.declared.Reading.{Reading}
 use Rattle.tablefile.specs.declared.Reading.the-variants as readings
 use Rattle.tablefile.specs.Reading as files
 use Rattle.tablefile.specs.Reading.{readFile, Reads}
-use Rattle.codes.specs.Codes.{codeOf, over, fileCheck}
+use Rattle.codes.specs.Codes.{codeOf, fileCheck}
 
 -- no refusal has the code 0
 fault-code : (f : Fault) (p : ℕ) → codeOf (refused (files.numberOf f) p) ≡ 0 → ⊥
@@ -63,10 +63,10 @@ pub first-code : (x y : Outcome) {r : ℕ} → r ≡ codeOf x → (r ≡ 0 → �
 first-code accepted y e h = absurd (h e)
 first-code (refused n p) y e h = e
 
--- at a code that is not 0 the buffer is as it was
-pub kept : (o : Outcome) (bytes s : List ℕ) {r : ℕ} → r ≡ codeOf o → (r ≡ 0 → ⊥) → s ≡ over o bytes s
-kept accepted bytes s e h = absurd (h e)
-kept (refused n p) bytes s e h = refl
+-- at a code that is not 0 a buffer is as it was
+pub kept : (o : Outcome) (new old : List ℕ) {r : ℕ} → r ≡ codeOf o → (r ≡ 0 → ⊥) → old ≡ unlessRefused o new old
+kept accepted new old e h = absurd (h e)
+kept (refused n p) new old e h = refl
 
 -- ---- a table file that is opened
 pub opened-accepted : (file : List ℕ) → fileCheck file ≡ accepted → (readFile file .outcome ≡ accepted) × (opening (contents (readFile file .table)) ≡ accepted)

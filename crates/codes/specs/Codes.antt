@@ -1,7 +1,6 @@
--- What the calls on byte slices return, and what they leave in a lent buffer.
+-- What the calls on byte slices return: an outcome as one number, and the check of a table file that is opened.
 use Prim.Native.Nat.{ℕ, _+_, _*_, min}
-use mathlib.Core.List.{List, [], _∷_, _++_}
-use lib.ListN.{length, drop}
+use mathlib.Core.List.{List, [], _∷_}
 use Rattle.table.specs.Rows.{contents}
 use Rattle.table.specs.Checks.{Outcome, accepted, refused, first}
 use Rattle.planner.specs.Opening.{opening}
@@ -14,11 +13,6 @@ mostPlace = 4294967295
 abbrev pub codeOf : Outcome → ℕ
 codeOf accepted = 0
 codeOf (refused number place) = number + 256 * min place mostPlace
-
--- Bytes at the front of a buffer, and its own bytes behind them; at a refusal every byte as it was.
-abbrev pub over : Outcome → List ℕ → List ℕ → List ℕ
-over accepted bytes buffer = bytes ++ drop (length bytes) buffer
-over (refused n p) bytes buffer = buffer
 
 -- A table file that is opened: the file's refusals, then opening's.
 unfoldable pub fileCheck : List ℕ → Outcome

@@ -1,2 +1,2 @@
--- What the calls from other languages return, and what they leave in a lent buffer.
+-- What the calls from other languages return.
 pub mod Codes

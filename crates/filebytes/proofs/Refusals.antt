@@ -6,7 +6,7 @@ use lib.ListN.{length}
 use borrow.Author.Tests.{le-leb, lt-leb}
 use Rattle.table.specs.Rows.{contents}
 use Rattle.table.specs.Checks as tables
-use Rattle.table.specs.Checks.{Outcome, accepted, refused, first}
+use Rattle.table.specs.Checks.{Outcome, accepted, refused, first, over}
 use Rattle.planner.specs.declared.Sheet.{Sheet}
 use Rattle.planner.specs.Opening.{opening}
 use Rattle.planner.specs.Bound.{bounds}
@@ -18,7 +18,7 @@ use Rattle.tablefile.specs.Reading.{readFile, Reads}
 use Rattle.tablefile.specs.Writing as writes
 use Rattle.tablefile.specs.Writing.{Writes, fileOf, writeCheck}
 use Rattle.words.specs.Words.{flat, wordBytes}
-use Rattle.codes.specs.Codes.{codeOf, over, fileCheck}
+use Rattle.codes.specs.Codes.{codeOf, fileCheck}
 use Rattle.codes.proofs.Laws.{reading-zero, both-zero, first-one, first-code, kept, opened-accepted, checked}
 use Rattle.filebytes.specs.Files.{boundsSize, boundsCheck, BoundsWritten, rewriteCheck, Rewritten}
 

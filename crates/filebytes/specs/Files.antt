@@ -5,12 +5,12 @@ use mathlib.Core.Path.{_≡_}
 use lib.Dec.{leb}
 use lib.ListN.{length}
 use Rattle.table.specs.Rows.{contents}
-use Rattle.table.specs.Checks.{Outcome, unless, first}
+use Rattle.table.specs.Checks.{Outcome, unless, first, over}
 use Rattle.planner.specs.Bound.{bounds}
 use Rattle.tablefile.specs.Reading.{readFile}
 use Rattle.tablefile.specs.Writing.{fileOf, writeCheck}
 use Rattle.words.specs.Words.{flat, wordBytes}
-use Rattle.codes.specs.Codes.{codeOf, over, fileCheck}
+use Rattle.codes.specs.Codes.{codeOf, fileCheck}
 
 -- The 32 bounds, a word each.
 abbrev pub boundsSize : ℕ

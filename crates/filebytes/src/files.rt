@@ -2,9 +2,8 @@
 ghost use Prim.Native.Nat.{_≤_};
 ghost use mathlib.Core.Path.{_≡_};
 ghost use lib.ListN.{length};
-ghost use Rattle.table.specs.Checks.{accepted};
+ghost use Rattle.table.specs.Checks.{accepted, over};
 ghost use Rattle.words.specs.Words.{flat, wordBytes};
-ghost use Rattle.codes.specs.Codes.{over};
 ghost use Rattle.filebytes.specs.Files.{boundsSize, BoundsWritten, Rewritten};
 use codes::code;
 use codes::of_file;

@@ -10,6 +10,7 @@ use lib.Seq.{take-at, drop-at, take-all, drop-length, drop-drop}
 use borrow.Author.Tests.{eq-eqb, ne-eqb}
 use Rattle.table.specs.declared.Table.{Table}
 use Rattle.table.specs.Rows.{Contents, contents}
+use Rattle.table.specs.Checks.{accepted, over}
 use Rattle.machine.specs.declared.Port.{Port}
 use Rattle.machine.specs.State.{State, view}
 use Rattle.machine.specs.Calls.{Call, Answer, answer}
@@ -108,5 +109,5 @@ goes-on p₀ calls before i p now t r ys h f s =
         let joined : w ++ ys ≡ (w ++ a) ++ drop (answerSize * suc i) before = rw tail (sym (append-assoc w a (drop (answerSize * suc i) before))) in
         whole ∙ joined
 
-pub all-done : (p₀ : Port) (calls before : List ℕ) (i : ℕ) (p : Port) (now : List ℕ) (t : Table) → i ≡ countOf calls → Sofar p₀ calls before i p now t → Ran t (eventsOf (contents t) calls (countOf calls)) × (now ≡ answersOf (contents t) calls (countOf calls) ++ drop (answerSize * countOf calls) before)
-all-done p₀ calls before i p now t e f = (record { port = p; run = rw (← e) (f .run); demand3 = rw (← e) (every-run t (eventsOf (contents t) calls i) p (f .run)) }, rw (← e) (f .bytes))
+pub all-done : (p₀ : Port) (calls before : List ℕ) (i : ℕ) (p : Port) (now : List ℕ) (t : Table) → i ≡ countOf calls → Sofar p₀ calls before i p now t → Ran t (eventsOf (contents t) calls (countOf calls)) × (now ≡ over accepted (answersOf (contents t) calls (countOf calls)) before)
+all-done p₀ calls before i p now t e f = (record { port = p; run = rw (← e) (f .run); demand3 = rw (← e) (every-run t (eventsOf (contents t) calls i) p (f .run)) }, rw (answers-length (contents t) calls (countOf calls), ← e) (f .bytes))

@@ -6,7 +6,7 @@ use mathlib.Core.Path.{_≡_}
 use lib.Dec.{leb, eqb}
 use lib.ListN.{length, take, drop}
 use Rattle.table.specs.Rows.{Contents, contents}
-use Rattle.table.specs.Checks.{Outcome, accepted, refused, unless, first}
+use Rattle.table.specs.Checks.{Outcome, accepted, unless, first, over}
 use Rattle.tablefile.specs.Reading.{readFile}
 use Rattle.machine.specs.Calls.{Call, answer}
 use Rattle.machine.specs.Run.{Event, event, machine, Ran}
@@ -54,13 +54,8 @@ unfoldable pub answersOf : Contents → List ℕ → ℕ → List ℕ
 answersOf t calls zero = []
 answersOf t calls (suc n) = answersOf t calls n ++ answerBytes (answer (machine t (eventsOf t calls n)) (callAt calls n))
 
--- The buffer: the answers, then its own bytes behind them; at a refusal every byte as it was.
-abbrev pub bufferBy : Outcome → Contents → List ℕ → List ℕ → List ℕ
-bufferBy accepted t calls buffer = answersOf t calls (countOf calls) ++ drop (answerSize * countOf calls) buffer
-bufferBy (refused n p) t calls buffer = buffer
-
--- The promise of a replay. The list with these answers ran: it is a run, and demand 3 holds of it.
+-- The promise of a replay. The answers stand at the front of the buffer. The list with these answers ran: it is a run, and demand 3 holds of it.
 pub record Replayed (file calls before after : List ℕ) (r : ℕ) : Type 0 where
   pub code : r ≡ codeOf (replayCheck file calls (length before))
-  pub buffer : after ≡ bufferBy (replayCheck file calls (length before)) (contents (readFile file .table)) calls before
+  pub buffer : after ≡ over (replayCheck file calls (length before)) (answersOf (contents (readFile file .table)) calls (countOf calls)) before
   pub ran : replayCheck file calls (length before) ≡ accepted → Ran (readFile file .table) (eventsOf (contents (readFile file .table)) calls (countOf calls))

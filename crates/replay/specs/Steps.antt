@@ -4,11 +4,11 @@ use mathlib.Core.List.{List, []}
 use mathlib.Core.Path.{_≡_}
 use Rattle.table.specs.declared.Table.{Table}
 use Rattle.table.specs.Rows.{contents}
-use Rattle.table.specs.Checks.{accepted}
+use Rattle.table.specs.Checks.{accepted, over}
 use Rattle.machine.specs.declared.Port.{Port}
 use Rattle.machine.specs.Run.{Run, Ran}
-use Rattle.replay.specs.List.{countOf, eventsOf, bufferBy}
+use Rattle.replay.specs.List.{countOf, eventsOf, answersOf}
 
 -- All calls on a port that opening gave.
 abbrev pub Listed : Port → List ℕ → List ℕ → List ℕ → Type 0
-Listed p calls before after = (t : Table) → Run t [] p → Ran t (eventsOf (contents t) calls (countOf calls)) × (after ≡ bufferBy accepted (contents t) calls before)
+Listed p calls before after = (t : Table) → Run t [] p → Ran t (eventsOf (contents t) calls (countOf calls)) × (after ≡ over accepted (answersOf (contents t) calls (countOf calls)) before)

@@ -9,7 +9,7 @@ use borrow.Author.Tests.{le-leb, lt-leb}
 use Rattle.table.specs.declared.Table.{Table}
 use Rattle.table.specs.Limits.{mostRows}
 use Rattle.table.specs.Rows.{noRow, rowsOf, contents}
-use Rattle.table.specs.Checks.{Outcome, accepted, refused}
+use Rattle.table.specs.Checks.{Outcome, accepted, refused, over}
 use Rattle.table.proofs.Laws.{never, rows-length}
 use Rattle.planner.proofs.Laws.{accepted-if}
 use Rattle.tablefile.specs.Reading.{readFile}
@@ -22,7 +22,7 @@ use Rattle.machine.specs.Calls.{Call, Answer, taken, passed, denied, answer, Ke
 use Rattle.machine.specs.Run.{Event, event, Run, called}
 use Rattle.machine.proofs.Theorem.{every-run, run-placed}
 use Rattle.words.specs.Words.{flat, wordBytes}
-use Rattle.codes.specs.Codes.{codeOf, over, fileCheck}
+use Rattle.codes.specs.Codes.{codeOf, fileCheck}
 use Rattle.codes.proofs.Laws.{opened-accepted}
 use Rattle.recordbytes.specs.declared.Reading.{Reading}
 use Rattle.recordbytes.specs.Layout.{recordSize}

@@ -7,12 +7,12 @@ use lib.Dec.{leb}
 use lib.ListN.{length, drop, replicate}
 use Rattle.table.specs.declared.Table.{Table}
 use Rattle.table.specs.Rows.{contents}
-use Rattle.table.specs.Checks.{Outcome, accepted, refused, unless, first}
+use Rattle.table.specs.Checks.{Outcome, accepted, unless, first, unlessRefused, over}
 use Rattle.tablefile.specs.Reading.{readFile}
 use Rattle.machine.specs.State.{State, fresh}
 use Rattle.machine.specs.Calls.{Call, Answer, taken, passed, denied, after, answer}
 use Rattle.machine.specs.Run.{Event, event, Run, Demand3}
-use Rattle.codes.specs.Codes.{codeOf, over, fileCheck}
+use Rattle.codes.specs.Codes.{codeOf, fileCheck}
 use Rattle.recordbytes.specs.Layout.{recordSize}
 use Rattle.recordbytes.specs.Record.{recordOver, stateOf, isRecord}
 use Rattle.recordbytes.specs.Port.{portFrom}
@@ -23,10 +23,6 @@ pub record Reached (t : Table) (es : List Event) (s : List ℕ) : Type 0 where
   pub record-bytes : isRecord s ≡ true
   pub run : Run t es (portFrom (stateOf s))
   pub demand3 : Demand3 (contents t) es (portFrom (stateOf s))
-
-abbrev pub unlessRefused : Outcome → List ℕ → List ℕ → List ℕ
-unlessRefused accepted new old = new
-unlessRefused (refused n p) new old = old
 
 -- ---- opening a table file into a record's bytes
 -- 103, fewer bytes than a record's. Then the file's refusals, then opening's.

@@ -7,9 +7,8 @@ use lib.ListN.{length, getD}
 use borrow.Author.Needs.{needs}
 use denote.Builtin.{u64}
 use denote.Ref.{now}
-use Rattle.table.specs.Checks.{accepted}
+use Rattle.table.specs.Checks.{accepted, over}
 use Rattle.words.specs.Words.{flat, wordBytes, stored}
-use Rattle.codes.specs.Codes.{over}
 use Rattle.words.proofs.Laws.{bytes-length, stored-length, stored-front, array-places, Storing, storing-first, storing-next, storing-end, put-fits}
 use Rattle.filebytes.proofs.files.put_bounds.Statement.{statement}
 use Rattle.filebytes.proofs.files.put_bounds.Tie as tie
