@@ -1,26 +1,24 @@
--- A list of calls: which is the first that can't be read, where each answer goes, and that the calls make a run.
+-- A list of calls: which is the first that can't be read, and where each answer goes.
 use Prim.Native.Nat.{ℕ, zero, suc, _+_, _-_, _*_, _≤_, _<_}
 use mathlib.Core.Bool.{Bool, true, false}
-use mathlib.Core.List.{List, [], _++_, append-nil, append-assoc}
+use mathlib.Core.List.{List, _++_, append-nil, append-assoc}
 use mathlib.Core.Path.{_≡_, refl, sym, _∙_, ap}
 use native.Mathlib.Numerals.{add-one}
 use native.Mathlib.Omega.{arith}
 use lib.ListN.{length, take, drop, length-append, length-take, length-drop}
 use lib.Seq.{take-at, drop-at, take-all, drop-length, drop-drop}
 use borrow.Author.Tests.{eq-eqb, ne-eqb}
-use Rattle.table.specs.declared.Table.{Table}
-use Rattle.table.specs.Rows.{Contents, contents}
+use Rattle.table.specs.Rows.{Contents}
 use Rattle.table.specs.Checks.{accepted, over}
 use Rattle.machine.specs.declared.Port.{Port}
-use Rattle.machine.specs.State.{State, view}
-use Rattle.machine.specs.Calls.{Call, Answer, answer}
-use Rattle.machine.specs.Run.{machine, Run, called, Ran}
-use Rattle.machine.proofs.Theorem.{every-run}
-use Rattle.callbytes.specs.Calls.{answerSize, answerBytes, fronted}
+use Rattle.machine.specs.State.{fresh, view}
+use Rattle.machine.specs.Calls.{Call, answer}
+use Rattle.machine.specs.Run.{machine, answered}
+use Rattle.callbytes.specs.Calls.{answerSize, answerBytes}
 use Rattle.callbytes.proofs.Laws.{answer-length, answer-fits}
 use Rattle.turns.specs.declared.Stepped.{Stepped}
 use Rattle.turns.specs.Turns.{Steps}
-use Rattle.replay.specs.List.{callAt, lowest, countOf, eventsOf, answersOf}
+use Rattle.replay.specs.List.{callAt, lowest, countOf, callsOf, eventsOf, answersOf}
 
 -- ---- the lowest number that fails a test
 pub none-yet : (ok : ℕ → Bool) → lowest 0 ok ≡ 0
@@ -50,12 +48,13 @@ first-at n i ok h e f =
     sym (ap (λ (m : ℕ). lowest m ok) z ∙ stays (n - suc i) i ok (stops-here i ok e f))
 
 -- ---- the answers, one behind the other
-pub answers-length : (t : Contents) (s : List ℕ) (n : ℕ) → length (answersOf t s n) ≡ answerSize * n
-unfolding answersOf
+answers-length : (t : Contents) (s : List ℕ) (n : ℕ) → length (answersOf (answered t (callsOf s n))) ≡ answerSize * n
+unfolding callsOf
 answers-length t s zero = refl
 answers-length t s (suc n) =
-    let a = answerBytes (answer (machine t (eventsOf t s n)) (callAt s n)) in
-    length-append (answersOf t s n) a ∙ omega (arith, answers-length t s n, answer-length (answer (machine t (eventsOf t s n)) (callAt s n)))
+    let es = answered t (callsOf s n) in
+    let a = answer (machine t es) (callAt s n) in
+    length-append (answersOf es) (answerBytes a) ∙ omega (arith, answers-length t s n, answer-length a)
 
 -- a part behind some bytes, written anew at its front
 behind : (a r ys : List ℕ) (n : ℕ) → length a ≡ n → take n (a ++ r) ++ (ys ++ drop (length (a ++ r) - n) (drop n (a ++ r))) ≡ a ++ ys
@@ -80,24 +79,25 @@ same-size xs at p c r ys h s =
     let e = drop (length xs - at) (drop at xs) in
     length-append (take at xs) (ys ++ e) ∙ omega (arith, l, length-append ys e, length-take at xs, length-drop at xs, length-take (length xs - at) (drop at xs), length-drop (length xs - at) (drop at xs))
 
--- ---- the run so far: its list, its port, and the answers in the buffer
-pub record Sofar (p₀ : Port) (calls before : List ℕ) (i : ℕ) (p : Port) (now : List ℕ) (t : Table) : Type 0 where
-  pub run : Run t (eventsOf (contents t) calls i) p
-  pub bytes : now ≡ answersOf (contents t) calls i ++ drop (answerSize * i) before
+-- ---- the calls so far: the machine's port, and the answers in the buffer
+pub record Sofar (t : Contents) (calls before : List ℕ) (i : ℕ) (p : Port) (now : List ℕ) : Type 0 where
+  pub port : view p ≡ machine t (answered t (callsOf calls i))
+  pub bytes : now ≡ answersOf (answered t (callsOf calls i)) ++ drop (answerSize * i) before
 
-pub begins : (p : Port) (calls before : List ℕ) (t : Table) → Run t [] p → Sofar p calls before 0 p before t
-unfolding eventsOf answersOf
-begins p calls before t r = record { run = r; bytes = refl }
+pub begins : (t : Contents) (calls before : List ℕ) (p : Port) → view p ≡ fresh t → Sofar t calls before 0 p before
+unfolding callsOf
+begins t calls before p e = record { port = e; bytes = refl }
 
-pub goes-on : (p₀ : Port) (calls before : List ℕ) (i : ℕ) (p : Port) (now : List ℕ) (t : Table) (r : Stepped) (ys : List ℕ) → answerSize ≤ length (take (length now - answerSize * i) (drop (answerSize * i) now)) → Sofar p₀ calls before i p now t → Steps p (callAt calls i) r (take (length now - answerSize * i) (drop (answerSize * i) now)) ys → Sofar p₀ calls before (i + 1) (r .port) (take (answerSize * i) now ++ (ys ++ drop (length now - answerSize * i) (drop (answerSize * i) now))) t
-unfolding eventsOf answersOf
-goes-on p₀ calls before i p now t r ys h f s =
-    let es = eventsOf (contents t) calls i in
-    let a = answer (machine (contents t) es) (callAt calls i) in
-    let same : answer (view p) (callAt calls i) ≡ a = ap (λ (x : State). answer x (callAt calls i)) (every-run t es p (f .run) .faithful .port) in
+pub goes-on : (t : Contents) (calls before : List ℕ) (i : ℕ) (p : Port) (now : List ℕ) (r : Stepped) (ys : List ℕ) → answerSize ≤ length (take (length now - answerSize * i) (drop (answerSize * i) now)) → Sofar t calls before i p now → Steps p (callAt calls i) r (take (length now - answerSize * i) (drop (answerSize * i) now)) ys → Sofar t calls before (i + 1) (r .port) (take (answerSize * i) now ++ (ys ++ drop (length now - answerSize * i) (drop (answerSize * i) now)))
+unfolding callsOf
+goes-on t calls before i p now r ys h f s =
+    let es = answered t (callsOf calls i) in
+    let a = answer (machine t es) (callAt calls i) in
+    let part = take (length now - answerSize * i) (drop (answerSize * i) now) in
+    let written : ys ≡ answerBytes a ++ drop answerSize part = rw (f .port) at (s .bytes) ∙ answer-fits a part h in
     record {
-      run = rw add-one (called (f .run) (rw same at (s .gives)));
-      bytes = rw add-one (placed (answersOf (contents t) calls i) (answerBytes a) now (answers-length (contents t) calls i) (f .bytes) (s .bytes ∙ ap (λ (x : Answer). fronted (answerBytes x) (take (length now - answerSize * i) (drop (answerSize * i) now))) same ∙ answer-fits a (take (length now - answerSize * i) (drop (answerSize * i) now)) h));
+      port = rw (add-one, ← f .port) (s .gives .port);
+      bytes = rw add-one (placed (answersOf es) (answerBytes a) now (answers-length t calls i) (f .bytes) written);
     }
   where
     placed : (w a now : List ℕ) → length w ≡ answerSize * i → now ≡ w ++ drop (answerSize * i) before → ys ≡ a ++ drop answerSize (take (length now - answerSize * i) (drop (answerSize * i) now)) → take (answerSize * i) now ++ (ys ++ drop (length now - answerSize * i) (drop (answerSize * i) now)) ≡ (w ++ a) ++ drop (answerSize * suc i) before
@@ -109,5 +109,5 @@ goes-on p₀ calls before i p now t r ys h f s =
         let joined : w ++ ys ≡ (w ++ a) ++ drop (answerSize * suc i) before = rw tail (sym (append-assoc w a (drop (answerSize * suc i) before))) in
         whole ∙ joined
 
-pub all-done : (p₀ : Port) (calls before : List ℕ) (i : ℕ) (p : Port) (now : List ℕ) (t : Table) → i ≡ countOf calls → Sofar p₀ calls before i p now t → Ran t (eventsOf (contents t) calls (countOf calls)) × (now ≡ over accepted (answersOf (contents t) calls (countOf calls)) before)
-all-done p₀ calls before i p now t e f = (record { port = p; run = rw (← e) (f .run); demand3 = rw (← e) (every-run t (eventsOf (contents t) calls i) p (f .run)) }, rw (answers-length (contents t) calls (countOf calls), ← e) (f .bytes))
+pub all-done : (t : Contents) (calls before : List ℕ) (i : ℕ) (p : Port) (now : List ℕ) → i ≡ countOf calls → Sofar t calls before i p now → now ≡ over accepted (answersOf (eventsOf t calls)) before
+all-done t calls before i p now e f = rw (answers-length t calls (countOf calls), ← e) (f .bytes)

@@ -7,15 +7,16 @@ use native.Mathlib.Omega.{arith}
 use lib.ListN.{length}
 use lib.Dec.{eqb, leb}
 use borrow.Author.Tests.{eq-eqb, ne-eqb, leb-true, le-leb, lt-leb}
-use Rattle.table.specs.Checks.{Outcome, accepted, refused, unless, first}
-use Rattle.table.proofs.Laws.{never}
+use Rattle.table.specs.Rows.{contents}
+use Rattle.table.specs.Checks.{accepted, refused, unless, first}
 use Rattle.tablefile.specs.Reading.{readFile}
+use Rattle.machine.proofs.EveryList.{every-list-ran}
 use Rattle.codes.specs.Codes.{codeOf, fileCheck}
+use Rattle.codes.proofs.Laws.{first-one, first-code, kept, opened-accepted}
 use Rattle.callbytes.specs.Calls.{callSize, answerSize}
 use Rattle.turns.specs.declared.FilePort.{FilePort}
 use Rattle.turns.specs.Turns.{FileOpened}
-use Rattle.turns.proofs.Laws.{opened-run}
-use Rattle.replay.specs.List.{countOf, unreadable, listCheck, replayCheck, Replayed}
+use Rattle.replay.specs.List.{countOf, callsOf, unreadable, listCheck, replayCheck, Replayed}
 use Rattle.replay.specs.Steps.{Listed}
 
 -- ---- the list's own checks
@@ -52,29 +53,25 @@ list-accepted s room e z =
 
 -- ---- a replay
 module _ (file s before : List ℕ) where
-  refused-by : {r n p : ℕ} → replayCheck file s (length before) ≡ refused n p → r ≡ codeOf (refused n p) → Replayed file s before before r
-  refused-by q e = record { code = e ∙ sym (ap codeOf q); buffer = rw q refl; ran = λ z. never (sym q ∙ z) }
+  refused-by : {r : ℕ} → r ≡ codeOf (replayCheck file s (length before)) → (r ≡ 0 → ⊥) → Replayed file s before before r
+  refused-by e h = record { code = e; buffer = kept (replayCheck file s (length before)) _ before e h; ran = λ z. absurd (h (e ∙ ap codeOf z)) }
 
   pub misfit : {r : ℕ} → r ≡ codeOf (listCheck s (length before)) → (r ≡ 0 → ⊥) → Replayed file s before before r
   unfolding replayCheck
-  misfit {r} e h = by-list (listCheck s (length before)) refl
-    where
-      by-list : (o : Outcome) → listCheck s (length before) ≡ o → Replayed file s before before r
-      by-list accepted q = absurd (h (e ∙ ap codeOf q))
-      by-list (refused n p) q = refused-by {n = n} {p = p} (rw q refl) (e ∙ ap codeOf q)
+  misfit e h = refused-by (first-code (listCheck s (length before)) (fileCheck file) e h) h
 
   module _ (fit : listCheck s (length before) ≡ accepted) {o : FilePort} (made : FileOpened file o) where
     pub file-refused : (o .code ≡ 0 → ⊥) → Replayed file s before before (o .code)
     unfolding replayCheck
-    file-refused h = by-file (fileCheck file) refl
-      where
-        by-file : (x : Outcome) → fileCheck file ≡ x → Replayed file s before before (o .code)
-        by-file accepted q = absurd (h (made .code ∙ ap codeOf q))
-        by-file (refused n p) q = refused-by {n = n} {p = p} (rw (fit, q) refl) (made .code ∙ ap codeOf q)
+    file-refused h = refused-by (rw (fit, first-one (fileCheck file)) (made .code)) h
 
     pub all-answered : {after : List ℕ} → o .code ≡ 0 → Listed (o .port) s before after → Replayed file s before after (o .code)
     unfolding replayCheck
-    all-answered {after} z listed =
+    all-answered z listed =
         let all : replayCheck file s (length before) ≡ accepted = rw (fit, made .told z) refl in
-        let done = listed (readFile file .table) (opened-run file made z) in
-        record { code = z ∙ rw all refl; buffer = rw all (done .1); ran = λ _. done .0 }
+        let t = readFile file .table in
+        record {
+          code = z ∙ rw all refl;
+          buffer = rw all (listed (contents t) (made .fresh));
+          ran = λ _. every-list-ran t (opened-accepted file (made .told z) .1) (callsOf s (countOf s));
+        }

@@ -8,8 +8,8 @@ use lib.ListN.{length, take, drop}
 use Rattle.table.specs.Rows.{Contents, contents}
 use Rattle.table.specs.Checks.{Outcome, accepted, unless, first, over}
 use Rattle.tablefile.specs.Reading.{readFile}
-use Rattle.machine.specs.Calls.{Call, answer}
-use Rattle.machine.specs.Run.{Event, event, machine, Ran}
+use Rattle.machine.specs.Calls.{Call}
+use Rattle.machine.specs.Run.{Event, event, answered, Ran}
 use Rattle.codes.specs.Codes.{codeOf, fileCheck}
 use Rattle.callbytes.specs.declared.Asked.{Asked}
 use Rattle.callbytes.specs.Calls.{callSize, answerSize, readCall, isReadable, callOf, answerBytes}
@@ -45,17 +45,22 @@ listCheck calls room =
 unfoldable pub replayCheck : List ℕ → List ℕ → ℕ → Outcome
 replayCheck file calls room = first (listCheck calls room ∷ fileCheck file ∷ [])
 
--- The first n calls with the machine's answers, the newest first, and the bytes of these answers, the oldest first.
-unfoldable pub eventsOf : Contents → List ℕ → ℕ → List Event
-eventsOf t calls zero = []
-eventsOf t calls (suc n) = event (callAt calls n) (answer (machine t (eventsOf t calls n)) (callAt calls n)) ∷ eventsOf t calls n
+-- The first n calls, the newest first.
+unfoldable pub callsOf : List ℕ → ℕ → List Call
+callsOf calls zero = []
+callsOf calls (suc n) = callAt calls n ∷ callsOf calls n
 
-unfoldable pub answersOf : Contents → List ℕ → ℕ → List ℕ
-answersOf t calls zero = []
-answersOf t calls (suc n) = answersOf t calls n ++ answerBytes (answer (machine t (eventsOf t calls n)) (callAt calls n))
+-- All of them, with the machine's answers, on the fresh port of a table.
+abbrev pub eventsOf : Contents → List ℕ → List Event
+eventsOf t calls = answered t (callsOf calls (countOf calls))
+
+-- The bytes of the answers, the oldest first.
+abbrev pub answersOf : List Event → List ℕ
+answersOf [] = []
+answersOf (event c a ∷ es) = answersOf es ++ answerBytes a
 
 -- The promise of a replay. The answers stand at the front of the buffer. The list with these answers ran: it is a run, and demand 3 holds of it.
 pub record Replayed (file calls before after : List ℕ) (r : ℕ) : Type 0 where
   pub code : r ≡ codeOf (replayCheck file calls (length before))
-  pub buffer : after ≡ over (replayCheck file calls (length before)) (answersOf (contents (readFile file .table)) calls (countOf calls)) before
-  pub ran : replayCheck file calls (length before) ≡ accepted → Ran (readFile file .table) (eventsOf (contents (readFile file .table)) calls (countOf calls))
+  pub buffer : after ≡ over (replayCheck file calls (length before)) (answersOf (eventsOf (contents (readFile file .table)) calls)) before
+  pub ran : replayCheck file calls (length before) ≡ accepted → Ran (readFile file .table) (eventsOf (contents (readFile file .table)) calls)

@@ -1,2 +1,2 @@
 -- What the crates above may cite.
-pub use Rattle.turns.proofs.Starts.{opened-run, start}
+pub use Rattle.turns.proofs.Starts.{start}

@@ -1,7 +1,7 @@
 -- The port of a file that is not refused is the start of a run, and so is any record with the same parts and the same table.
 use Prim.Native.Nat.{ℕ}
 use mathlib.Core.List.{List, []}
-use mathlib.Core.Path.{_≡_, refl, sym, _∙_}
+use mathlib.Core.Path.{_≡_, sym, _∙_}
 use Rattle.table.specs.declared.Verdict.the-variants as verdicts
 use Rattle.tablefile.specs.Reading.{readFile}
 use Rattle.machine.specs.declared.Port.{Port}
@@ -15,6 +15,3 @@ pub start : (file : List ℕ) {o : FilePort} {q : Port} → FileOpened file o �
 start file {o} {q} made z e f =
     let ok = opened-accepted file (made .told z) .1 in
     opened {r = record { verdict = verdicts.Accepted; port = q }} (record { verdict = sym ok; port = e ∙ made .fresh; table = f ∙ made .table }) ok
-
-pub opened-run : (file : List ℕ) {o : FilePort} → FileOpened file o → o .code ≡ 0 → Run (readFile file .table) [] (o .port)
-opened-run file made z = start file made z refl refl

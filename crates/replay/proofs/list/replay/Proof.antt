@@ -1,4 +1,4 @@
--- `replay::list::replay` meets its contract: the first check that fails decides, and after them the calls make a run.
+-- `replay::list::replay` meets its contract: the first check that fails decides, and past them the answers are the machine's, whose every list of calls is a run.
 use Rattle.replay.proofs.Outcomes.{list-accepted, misfit, file-refused, all-answered}
 use borrow.Author.Needs.{needs}
 use Rattle.replay.proofs.list.replay.Statement.{statement}

@@ -1,12 +1,11 @@
--- `replay::list::steps` meets its contract: at i the first i calls have made a run, and their answers stand in the buffer.
+-- `replay::list::steps` meets its contract: at i the port is the machine's after the first i calls, and their answers stand in the buffer.
 use Prim.Native.Nat.{_-_, _*_, _≤_}
-use mathlib.Core.List.{[]}
 use mathlib.Core.Path.{_≡_, refl, _∙_}
 use native.Mathlib.Omega.{arith}
 use denote.Ref.{now}
 use lib.ListN.{length}
-use Rattle.table.specs.declared.Table.{Table}
-use Rattle.machine.specs.Run.{Run}
+use Rattle.table.specs.Rows.{Contents}
+use Rattle.machine.specs.State.{fresh, view}
 use Rattle.callbytes.specs.Calls.{answerSize}
 use Rattle.replay.specs.List.{callAt, countOf}
 use Rattle.replay.proofs.Listing.{room, same-size, Sofar, begins, goes-on, all-done}
@@ -15,13 +14,13 @@ use Rattle.replay.proofs.list.steps.Statement.{statement}
 use Rattle.replay.proofs.list.steps.Tie as tie
 
 abbrev Inv-loop : tie.InvT-loop
-Inv-loop calls out₀ count p₀ i₀ out p i = (count ≡ countOf calls) × (i ≤ count) × (length out ≡ length out₀) × ((t : Table) → Run t [] p₀ → Sofar p₀ calls out₀ i p out t)
+Inv-loop calls out₀ count p₀ i₀ out p i = (count ≡ countOf calls) × (i ≤ count) × (length out ≡ length out₀) × ((t : Contents) → view p₀ ≡ fresh t → Sofar t calls out₀ i p out)
 
 abbrev μ-loop : tie.MeasureT-loop
 μ-loop calls out₀ count p₀ i₀ out p i = count - i
 
 loop-holds : tie.Need-loop-holds Inv-loop μ-loop
-loop-holds c = (refl, omega arith, refl, λ t r. begins _ _ _ t r)
+loop-holds c = (refl, omega arith, refl, λ t e. begins t _ _ _ e)
 
 asked-at-requires : tie.Need-asked-at-requires Inv-loop μ-loop
 asked-at-requires c κs = omega arith
@@ -58,7 +57,7 @@ loop-again c =
       refl,
       omega arith,
       same-size (l .out) (answerSize * l .i) (l .p) (callAt calls (l .i)) (c .before .before .before .step .result) (c .before .before .before .step .last .1 .1 .0) fits step ∙ l .inv .2,
-      λ t r. goes-on (s .args .port) calls (now (s .args .out)) (l .i) (l .p) (l .out) t (c .before .before .before .step .result) (c .before .before .before .step .last .1 .1 .0) fits (l .inv .3 t r) step,
+      λ t e. goes-on t calls (now (s .args .out)) (l .i) (l .p) (l .out) (c .before .before .before .step .result) (c .before .before .before .step .last .1 .1 .0) fits (l .inv .3 t e) step,
     )
 
 same-length : tie.Need-same-length Inv-loop μ-loop
@@ -68,7 +67,7 @@ returns : tie.Need-returns Inv-loop μ-loop
 returns c =
     let l = c .before .loop in
     let s = c .before .before .before .before in
-    λ t r. all-done (s .args .port) (now (s .args .calls)) (now (s .args .out)) (l .i) (l .p) (l .out) t (omega arith) (l .inv .3 t r)
+    λ t e. all-done t (now (s .args .calls)) (now (s .args .out)) (l .i) (l .p) (l .out) (omega arith) (l .inv .3 t e)
 
 pub steps-spec : {M : Type 1} → statement M
 steps-spec =
