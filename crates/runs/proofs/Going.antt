@@ -1,6 +1,6 @@
 -- A run from one read to the next.
 use Prim.Native.Nat.{ℕ, _*_, _≤_}
-use mathlib.Core.Bool.{Bool, true, false, cond}
+use mathlib.Core.Bool.{Bool, true, false, cond, false≢true}
 use mathlib.Core.List.{List, [], _++_}
 use mathlib.Core.Path.{_≡_, refl, sym, _∙_, ap}
 use native.Mathlib.Omega.{arith}
@@ -23,15 +23,12 @@ use Rattle.runs.specs.Led.{stopped, Led, LedOn, Plays}
 use Rattle.runs.proofs.Runs.{none-left, goes-further}
 use Rattle.runs.proofs.Printed.{run-to}
 
-never-live : {X : Type 0} → false ≡ true → X
-never-live e = let z : _≡_ {A = ℕ} 0 1 = cc in absurd (omega arith)
-
 -- ---- a run whose text was written, or that has stopped
 pub goes-on : (run : Run) → Led (run .port .table) (standing run) run
 goes-on run = record { state = refl; table = refl; line = refl; live = λ e. e }
 
 pub stops : {t : Table} {u : Told} {mid r : Run} → Led t u mid → r ≡ stopped mid → Led t u r
-stops h e = rw e (record { state = h .state; table = h .table; line = h .line; live = λ z. never-live z })
+stops h e = rw e (record { state = h .state; table = h .table; line = h .line; live = λ z. absurd (false≢true z) })
 
 -- ---- more bytes
 -- what leads to a run, and then from it to another

@@ -1,9 +1,8 @@
 -- Whether some bytes are read.
 use Prim.Native.Nat.{ℕ, _*_, _≤_, _<_}
-use mathlib.Core.Bool.{Bool, true, false, _&&_}
+use mathlib.Core.Bool.{Bool, true, false, _&&_, true≢false}
 use mathlib.Core.List.{List}
 use mathlib.Core.Path.{_≡_, refl, sym, _∙_}
-use native.Mathlib.Omega.{arith}
 use lib.Dec.{leb}
 use lib.ListN.{length}
 use borrow.Author.Tests.{le-leb, lt-leb, leb-true}
@@ -13,9 +12,6 @@ use Rattle.runs.specs.declared.Run.{Run}
 use Rattle.runs.specs.declared.Answered.{Answered}
 use Rattle.runs.specs.Runs.{told, lineSize, isRead, Shows, AnswersTo}
 use Rattle.runs.proofs.Buffers.{none-put, none-used}
-
-no-read : {X : Type 0} → true ≡ false → X
-no-read e = let z : _≡_ {A = ℕ} 0 1 = cc in absurd (omega arith)
 
 pub no-room : (bytes room : ℕ) (live : Bool) → room < lineSize * bytes → false ≡ leb (lineSize * bytes) room && live
 no-room bytes room live h = rw (lt-leb (lineSize * bytes) room h) refl
@@ -38,4 +34,4 @@ module _ (run : Run) (bytes buffer : List ℕ) {b : Bool} (test : b ≡ isRead r
   pub is-read : b ≡ true → {after : List ℕ} {r : Answered} → Shows (told bytes (view (run .port)) (run .line)) (run .port .table) buffer after r → AnswersTo run bytes buffer after r
   is-read e s =
       let z : isRead run bytes buffer ≡ true = sym test ∙ e in
-      record { shows = rw z s; kept = λ n. no-read (sym z ∙ n) }
+      record { shows = rw z s; kept = λ n. absurd (true≢false (sym z ∙ n)) }

@@ -1,6 +1,6 @@
 -- A port kept as bytes, and the list of calls that has led to it.
 use Prim.Native.Nat.{ℕ, _≤_, _<_}
-use mathlib.Core.Bool.{true, false}
+use mathlib.Core.Bool.{true, false, true≢false, false≢true}
 use mathlib.Core.List.{List, [], _∷_}
 use mathlib.Core.Path.{_≡_, refl, sym, _∙_, ap}
 use native.Mathlib.Omega.{arith}
@@ -40,9 +40,6 @@ use Rattle.turns.specs.declared.Stepped.{Stepped}
 use Rattle.turns.specs.Turns.{FileOpened, Steps}
 use Rattle.turns.proofs.Laws.{start}
 use Rattle.saved.specs.Saved.{Reached, openCheck, cleared, OpenedInto, callCheck, answerOn, bytesBy, bytesAfter, Called}
-
-not-both : {X : Type 0} → true ≡ false → X
-not-both e = let z : _≡_ {A = ℕ} 0 1 = cc in absurd (omega arith)
 
 -- a record with the same parts and the same table
 table-from : (s : State) → portFrom s .table ≡ tableFrom (s .table)
@@ -115,21 +112,21 @@ module _ (file before : List ℕ) where
 free : (p q : Port) (a : Answer) → isDenied a ≡ false → Keeps a p q
 free p q taken e = tt
 free p q (passed n x) e = tt
-free p q (denied n l) e = not-both e
+free p q (denied n l) e = absurd (true≢false e)
 
 kept-whole : (p q : Port) (a : Answer) → isDenied a ≡ true → Keeps a p q → q ≡ p
-kept-whole p q taken e k = not-both (sym e)
-kept-whole p q (passed n x) e k = not-both (sym e)
+kept-whole p q taken e k = absurd (false≢true e)
+kept-whole p q (passed n x) e k = absurd (false≢true e)
 kept-whole p q (denied n l) e k = k
 
 bytes-new : (a : Answer) (s : State) (old : List ℕ) → isDenied a ≡ false → bytesBy a s old ≡ recordOver s old
 bytes-new taken s old e = refl
 bytes-new (passed n x) s old e = refl
-bytes-new (denied n l) s old e = not-both e
+bytes-new (denied n l) s old e = absurd (true≢false e)
 
 bytes-old : (a : Answer) (s : State) (old : List ℕ) → isDenied a ≡ true → bytesBy a s old ≡ old
-bytes-old taken s old e = not-both (sym e)
-bytes-old (passed n x) s old e = not-both (sym e)
+bytes-old taken s old e = absurd (false≢true e)
+bytes-old (passed n x) s old e = absurd (false≢true e)
 bytes-old (denied n l) s old e = refl
 
 module _ (saved call before : List ℕ) where
@@ -170,7 +167,7 @@ module _ (saved call before : List ℕ) where
               code = rw ready refl;
               answer = answered (denied 18 0) is e;
               port = rw (ready, ← is) refl;
-              reached = λ _ t es h. not-both (sym (h .record-bytes) ∙ bad);
+              reached = λ _ t es h. absurd (true≢false (sym (h .record-bytes) ∙ bad));
             }
 
         module _ (yes : r .readable ≡ true) {s : Stepped} {after : List ℕ} (step : Steps (r .port) c s before after) where
