@@ -13,10 +13,11 @@ use Rattle.machine.specs.State.{view}
 use Rattle.machine.specs.Run as machine
 use Rattle.machine.proofs.Theorem.{every-run}
 use Rattle.codes.specs.Codes.{fileCheck}
+use Rattle.texts.specs.Text.{lineSize}
 use Rattle.texts.proofs.Laws.{within}
 use Rattle.runs.specs.declared.Run.{Run}
 use Rattle.runs.specs.declared.Answered.{Answered}
-use Rattle.runs.specs.Runs.{Told, printed, told, goingOn, standing, lineSize, toldOf, Shows, AnswersTo}
+use Rattle.runs.specs.Runs.{Told, printed, told, goingOn, standing, toldOf, Shows, AnswersTo}
 use Rattle.runs.specs.Opened.{Begins}
 use Rattle.runs.specs.Printed.{eventsOf}
 use Rattle.runs.specs.Led.{stopped, Led, LedOn, Plays}

@@ -8,9 +8,10 @@ use lib.ListN.{length}
 use borrow.Author.Tests.{le-leb, lt-leb, leb-true}
 use Rattle.table.proofs.Laws.{and-true}
 use Rattle.machine.specs.State.{view}
+use Rattle.texts.specs.Text.{lineSize}
 use Rattle.runs.specs.declared.Run.{Run}
 use Rattle.runs.specs.declared.Answered.{Answered}
-use Rattle.runs.specs.Runs.{told, lineSize, isRead, Shows, AnswersTo}
+use Rattle.runs.specs.Runs.{told, isRead, Shows, AnswersTo}
 use Rattle.runs.proofs.Buffers.{none-put, none-used}
 
 pub no-room : (bytes room : ℕ) (live : Bool) → room < lineSize * bytes → false ≡ leb (lineSize * bytes) room && live

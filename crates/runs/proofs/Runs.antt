@@ -19,8 +19,8 @@ use Rattle.machine.specs.declared.Port.{Port}
 use Rattle.runs.specs.declared.answers.AfterCall.{AfterCall}
 use Rattle.texts.specs.Lines.{stepOf}
 use Rattle.runs.specs.Answers.{answerOf, callOf, Made}
-use Rattle.texts.specs.Text.{lineOf, putAt, usedBy}
-use Rattle.runs.specs.Runs.{Told, printed, onStep, told, goingOn, lineSize, Shows}
+use Rattle.texts.specs.Text.{lineOf, lineSize, putAt, usedBy}
+use Rattle.runs.specs.Runs.{Told, printed, onStep, told, goingOn, Shows}
 use Rattle.texts.proofs.Laws.{answer-put}
 use Rattle.runs.proofs.Buffers.{none-put, same-size, front-used, put-behind, used-behind}
 

@@ -16,7 +16,7 @@ use Rattle.runs.specs.declared.Run.{Run}
 use Rattle.runs.specs.declared.Answered.{Answered}
 use Rattle.texts.specs.Lines.{stepOf}
 use Rattle.runs.specs.Answers.{answerOf, callOf}
-use Rattle.texts.specs.Text.{lineOf, putAt, usedBy}
+use Rattle.texts.specs.Text.{lineOf, lineSize, putAt, usedBy}
 
 -- The text printed, the port, the line so far, and whether more is read.
 pub record Told : Type 0 where
@@ -47,10 +47,6 @@ goingOn r bytes = cond (r .live) (printed (r .text) (told bytes (r .state) (r .l
 -- A run by its parts, with nothing printed.
 abbrev pub standing : Run → Told
 standing r = record { text = []; state = view (r .port); line = r .line; live = r .live }
-
--- The most bytes that an answer's line has.
-abbrev pub lineSize : ℕ
-lineSize = 50
 
 -- Bytes are read if the run goes on and the buffer has room for a line for each. Of bytes that are not read nothing is told.
 abbrev pub isRead : Run → List ℕ → List ℕ → Bool

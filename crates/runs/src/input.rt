@@ -5,17 +5,16 @@ ghost use mathlib.Core.Path.{_≡_};
 ghost use lib.Dec.{leb};
 ghost use lib.ListN.{length};
 ghost use Rattle.machine.specs.State.{view};
-ghost use Rattle.runs.specs.Runs.{told, lineSize, Shows, AnswersTo};
+ghost use Rattle.texts.specs.Text.{lineSize};
+ghost use Rattle.runs.specs.Runs.{told, Shows, AnswersTo};
 use crate::Answered;
 use crate::Run;
 use crate::answers::make;
 use texts::lines::Line;
 use texts::lines::Stepped;
 use texts::lines::step;
+use texts::text::LINE_SIZE;
 use texts::text::put_answer;
-
-// The most bytes that an answer's line has.
-pub const LINE_SIZE: usize = 50;
 
 // Makes the calls of some bytes, and puts their answers into a buffer that has room for them.
 fn answers(run: Run, s: &[u8], out: &mut [u8]) -> Answered

@@ -13,7 +13,7 @@ use borrow.Author.Tests.{lt-ltb, le-ltb, le-leb, lt-leb, leb-true}
 use Rattle.io.specs.Digits.{glyph, digits, Fewest}
 use Rattle.texts.specs.declared.text.Answer.{Answer}
 use Rattle.texts.specs.declared.text.Answer.the-variants.{Refused, Passed}
-use Rattle.texts.specs.Text.{decimalBy, decimal, pair, lineOf, usedBy, putAt, Put}
+use Rattle.texts.specs.Text.{decimalBy, decimal, pair, lineOf, lineSize, usedBy, putAt, Put}
 
 -- ---- a text, byte by byte: the first i bytes stand behind what was there, and what stood behind them is as it was
 pub record Putting (at i : ℕ) (text before out : List ℕ) : Type 0 where
@@ -144,9 +144,9 @@ number-put n p room = at-most (decimal-short n) (text-put p (omega (arith, decim
 pair-short : (x y : ℕ) → length (pair x y) ≤ 42
 pair-short x y = rw (length-append, length-append, length-append) (omega (arith, decimal-short x, decimal-short y))
 
-pub line-short : (a : Answer) → length (lineOf a) ≤ 50
+pub line-short : (a : Answer) → length (lineOf a) ≤ lineSize
 line-short (Refused number place) = omega (arith, pair-short number place)
 line-short (Passed passed row) = omega (arith, pair-short passed row)
 
-pub answer-put : {at next : ℕ} {before after : List ℕ} (a : Answer) → at + 50 ≤ length before → next ≡ usedBy (lineOf a) at before → after ≡ putAt (lineOf a) at before → Put 50 (lineOf a) before at after next
+pub answer-put : {at next : ℕ} {before after : List ℕ} (a : Answer) → at + lineSize ≤ length before → next ≡ usedBy (lineOf a) at before → after ≡ putAt (lineOf a) at before → Put lineSize (lineOf a) before at after next
 answer-put a room en ea = at-most (line-short a) (text-put (en, ea) (omega (arith, line-short a)))

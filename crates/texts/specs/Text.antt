@@ -32,6 +32,10 @@ abbrev pub lineOf : Answer → List ℕ
 lineOf (Refused number place) = ascii "refused " ++ pair number place
 lineOf (Passed passed row) = ascii "0 " ++ pair passed row
 
+-- The most bytes that such a line has.
+abbrev pub lineSize : ℕ
+lineSize = 50
+
 -- A text behind the first `at` bytes of a buffer, all its other bytes as they were; where it finds no room the buffer stays as it is. And how many bytes are in use then.
 abbrev pub hasRoom : List ℕ → ℕ → List ℕ → Bool
 hasRoom text at buffer = leb (at + length text) (length buffer)

@@ -3,13 +3,16 @@ ghost use mathlib.Core.List.{_++_};
 ghost use mathlib.Core.Path.{_≡_};
 ghost use Prim.Native.Nat.{_+_, _≤_};
 ghost use lib.ListN.{length};
-ghost use Rattle.texts.specs.Text.{decimal, pair, lineOf, usedBy, putAt, Put};
+ghost use Rattle.texts.specs.Text.{decimal, pair, lineOf, lineSize, usedBy, putAt, Put};
 
 // An answer as it is printed: `refused`, number and place; or `0`, byte-times passed and the ended frame's row.
 pub enum Answer {
     Refused(u64, u64),
     Passed(u64, u64),
 }
+
+// The most bytes that an answer's line has.
+pub const LINE_SIZE: usize = 50;
 
 // Puts a text behind the first `at` bytes of a buffer, and answers how many bytes are in use then. Where it finds no room nothing is put.
 pub fn put(out: &mut [u8], at: usize, text: &[u8]) -> usize
@@ -53,8 +56,8 @@ fn put_pair(out: &mut [u8], head: &[u8], x: u64, y: u64) -> usize
 }
 
 fn spell(out: &mut [u8], a: Answer) -> usize
-    requires { ⌜ 50 ≤ length (now out) ⌝ }
-    ensures { λ r. ⌜ Put 50 (lineOf a) (now (out .entry)) 0 (now (out .exit)) r ⌝ }
+    requires { ⌜ lineSize ≤ length (now out) ⌝ }
+    ensures { λ r. ⌜ Put lineSize (lineOf a) (now (out .entry)) 0 (now (out .exit)) r ⌝ }
 {
     match a {
         Answer::Refused(number, place) => put_pair(out, b"refused ", number, place),
@@ -62,12 +65,12 @@ fn spell(out: &mut [u8], a: Answer) -> usize
     }
 }
 
-// An answer's line, put as a text is. It has at most 50 bytes.
+// An answer's line, put as a text is.
 pub fn put_answer(out: &mut [u8], at: usize, a: Answer) -> usize
     ensures { λ r. ⌜ r ≡ usedBy (lineOf a) at (now (out .entry)) ⌝ }
     ensures { λ _. ⌜ now (out .exit) ≡ putAt (lineOf a) at (now (out .entry)) ⌝ }
 {
-    let mut line = [0u8; 50];
+    let mut line = [0u8; LINE_SIZE];
     let n = spell(&mut line, a);
     put(out, at, &line[..n])
 }
