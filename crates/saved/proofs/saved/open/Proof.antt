@@ -1,4 +1,5 @@
 -- `saved::saved::open` meets its contract: by whether the buffer is long enough and the file is refused.
+use native.Mathlib.Omega.{arith}
 use Rattle.recordbytes.proofs.Laws.{owned-numbered}
 use Rattle.saved.proofs.Reaching.{open-short, open-refused, open-done}
 use borrow.Author.Needs.{needs}
@@ -9,7 +10,7 @@ code-requires : tie.Need-code-requires
 code-requires c κs = search needs
 
 returns : tie.Need-returns
-returns c = open-short _ _ (c .before .if1 .taken) (c .code .ensures)
+returns c = open-short _ _ (omega (arith, c .before .if1 .taken)) (c .code .ensures)
 
 open-file-requires : tie.Need-open-file-requires
 open-file-requires c κs = search needs
