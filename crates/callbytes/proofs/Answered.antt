@@ -50,7 +50,7 @@ pub too-short : (bytes s : List ℕ) → length s < length bytes → s ≡ front
 unfolding fronted
 too-short bytes s h = rw (lt-leb (length bytes) (length s) h) refl
 
-pub in-front : (bytes s : List ℕ) {t : List ℕ} → length bytes ≤ length s → t ≡ bytes ++ drop (length bytes) s → t ≡ fronted bytes s
+in-front : (bytes s : List ℕ) {t : List ℕ} → length bytes ≤ length s → t ≡ bytes ++ drop (length bytes) s → t ≡ fronted bytes s
 unfolding fronted
 in-front bytes s h e = rw (le-leb (length bytes) (length s) h) e
 

@@ -1,4 +1,4 @@
--- `portrun::answers::advanced` meets its contract, case by case.
+-- `runs::answers::advanced` meets its contract, case by case.
 use borrow.Author.Needs.{needs}
 use Rattle.runs.proofs.answers.advanced.Statement.{statement}
 use Rattle.runs.proofs.answers.advanced.Tie as tie

@@ -1,4 +1,4 @@
--- `portrun::answers::offered` meets its contract, case by case.
+-- `runs::answers::offered` meets its contract, case by case.
 use mathlib.Core.Path.{refl}
 use borrow.Author.Needs.{needs}
 use Rattle.runs.proofs.answers.offered.Statement.{statement}
