@@ -1,4 +1,4 @@
--- `codes::of_file` meets its contract.
+-- `codes::of_file` meets its contract: a code that is not 0 is the file's refusal; a code of 0 is no refusal, and then the verdict decides.
 use mathlib.Core.Path.{sym, _∙_}
 use Rattle.table.specs.Checks as tables
 use Rattle.tablefile.specs.Reading as files

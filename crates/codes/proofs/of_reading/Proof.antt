@@ -1,4 +1,4 @@
--- `codes::of_reading` meets its contract.
+-- `codes::of_reading` meets its contract: 0 for a whole file, else the fault's number with the place as it is.
 use borrow.Author.Needs.{needs}
 use Rattle.codes.proofs.of_reading.Statement.{statement}
 use Rattle.codes.proofs.of_reading.Tie as tie

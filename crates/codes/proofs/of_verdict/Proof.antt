@@ -1,4 +1,4 @@
--- `codes::of_verdict` meets its contract.
+-- `codes::of_verdict` meets its contract: 0 for an accepted table, else the refusal's number and place.
 use borrow.Author.Needs.{needs}
 use Rattle.codes.proofs.of_verdict.Statement.{statement}
 use Rattle.codes.proofs.of_verdict.Tie as tie

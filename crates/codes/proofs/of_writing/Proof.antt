@@ -1,4 +1,4 @@
--- `codes::of_writing` meets its contract.
+-- `codes::of_writing` meets its contract: 0 for a file that is written, 17 for a buffer that is too short, else the refusal's number and place.
 use borrow.Author.Needs.{needs}
 use Rattle.codes.proofs.of_writing.Statement.{statement}
 use Rattle.codes.proofs.of_writing.Tie as tie

@@ -1,4 +1,4 @@
--- `callbytes::answers::put_answer` meets its contract.
+-- `callbytes::answers::put_answer` meets its contract: five words, put one behind the other into a buffer that has room for all of them, are the bytes at its front.
 use Rattle.callbytes.proofs.Answered.{answer-short, answer-put}
 use borrow.Author.Needs.{needs}
 use Rattle.callbytes.proofs.answers.put_answer.Statement.{statement}

@@ -1,4 +1,4 @@
--- `callbytes::answers::write_advance` meets its contract.
+-- `callbytes::answers::write_advance` meets its contract: byte-times passed are put with the frame that ended, a denial by its number, and the flag says which of the two it was.
 use denote.Ref.{now}
 use Rattle.callbytes.proofs.Answered.{advance-flag, advance-passed, advance-refused}
 use borrow.Author.Needs.{needs}

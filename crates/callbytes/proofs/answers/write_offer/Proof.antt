@@ -1,4 +1,4 @@
--- `callbytes::answers::write_offer` meets its contract.
+-- `callbytes::answers::write_offer` meets its contract: a taken offer is put as 0, a denial by its number, and the flag says which of the two it was.
 use denote.Ref.{now}
 use Rattle.callbytes.proofs.Answered.{offer-flag, offer-taken, offer-refused}
 use borrow.Author.Needs.{needs}

@@ -1,4 +1,4 @@
--- `callbytes::answers::write_passed` meets its contract.
+-- `callbytes::answers::write_passed` meets its contract: the last three words are the ended frame's, or 33, 0, 0 where none ended.
 use denote.Ref.{now}
 use Rattle.callbytes.proofs.Answered.{some-ended, none-ended}
 use borrow.Author.Needs.{needs}

@@ -1,4 +1,4 @@
--- `callbytes::calls::call_by` meets its contract.
+-- `callbytes::calls::call_by` meets its contract: its tests are the definition's, in the same order.
 use mathlib.Core.Path.{refl}
 use borrow.Author.Tests.{eq-eqb, ne-eqb}
 use Rattle.callbytes.proofs.calls.call_by.Statement.{statement}

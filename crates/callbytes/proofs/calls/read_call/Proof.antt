@@ -1,4 +1,4 @@
--- `callbytes::calls::read_call` meets its contract.
+-- `callbytes::calls::read_call` meets its contract: 24 bytes are three words, and those name the call; any other length names none.
 use Rattle.callbytes.proofs.Answered.{no-call, call-named}
 use borrow.Author.Needs.{needs}
 use Rattle.callbytes.proofs.calls.read_call.Statement.{statement}

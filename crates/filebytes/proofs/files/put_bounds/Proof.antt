@@ -1,4 +1,4 @@
--- `filebytes::files::put_bounds` meets its contract.
+-- `filebytes::files::put_bounds` meets its contract: after i turns the first i bounds are stored, a word each, and no other byte has changed.
 use Prim.Native.Nat.{ℕ, _+_, _-_, _*_, _≤_}
 use mathlib.Core.List.{List, [], _∷_}
 use mathlib.Core.Path.{_≡_, refl, _∙_, ap}

@@ -1,4 +1,4 @@
--- `replay::list::asked_at` meets its contract.
+-- `replay::list::asked_at` meets its contract: the part that is read has the 24 bytes of call i.
 use Prim.Native.Nat.{ℕ, _+_, _-_, _*_}
 use mathlib.Core.List.{List}
 use mathlib.Core.Path.{_≡_, refl, _∙_}

@@ -1,4 +1,4 @@
--- `runs::input::is_read` meets its contract.
+-- `runs::input::is_read` meets its contract: the room divided by a line's size is below the count just where a line for each byte finds no room.
 use native.Mathlib.Omega.{arith}
 use Rattle.runs.proofs.Reading.{no-room, some-room}
 use Rattle.runs.proofs.input.is_read.Statement.{statement}

@@ -1,4 +1,4 @@
--- `texts::lines::digit` meets its contract.
+-- `texts::lines::digit` meets its contract: the byte of a digit is 48 to 57, so that 48 can be taken away and at most 9 is left.
 use borrow.Author.Needs.{needs}
 use Rattle.texts.proofs.Digits.{low, high}
 use Rattle.texts.proofs.lines.digit.Statement.{statement}

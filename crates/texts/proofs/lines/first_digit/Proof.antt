@@ -1,4 +1,4 @@
--- `texts::lines::first_digit` meets its contract.
+-- `texts::lines::first_digit` meets its contract: a digit begins the number, and any other byte is of another form.
 use mathlib.Core.Path.{sym, _∙_}
 use borrow.Author.Needs.{needs}
 use Rattle.texts.proofs.lines.first_digit.Statement.{statement}

@@ -1,4 +1,4 @@
--- `texts::lines::in_number` meets its contract.
+-- `texts::lines::in_number` meets its contract: a digit, a space, the line's end, another byte: its tests are the definition's, in the same order.
 use mathlib.Core.Path.{sym, _∙_}
 use borrow.Author.Tests.{eq-eqb, ne-eqb}
 use borrow.Author.Needs.{needs}

@@ -1,4 +1,4 @@
--- `texts::lines::is_digit` meets its contract.
+-- `texts::lines::is_digit` meets its contract: a byte below 48 is no digit, and of any other the second test decides.
 use borrow.Author.Tests.{le-leb, lt-leb}
 use Rattle.texts.proofs.lines.is_digit.Statement.{statement}
 use Rattle.texts.proofs.lines.is_digit.Tie as tie

@@ -1,4 +1,4 @@
--- `texts::lines::letter` meets its contract.
+-- `texts::lines::letter` meets its contract: the three letters are tested in the definition's order.
 use borrow.Author.Tests.{eq-eqb, ne-eqb}
 use Rattle.texts.proofs.lines.letter.Statement.{statement}
 use Rattle.texts.proofs.lines.letter.Tie as tie

@@ -1,4 +1,4 @@
--- `texts::lines::space` meets its contract.
+-- `texts::lines::space` meets its contract: a space goes on to the number, and any other byte is of another form.
 use borrow.Author.Tests.{eq-eqb, ne-eqb}
 use Rattle.texts.proofs.lines.space.Statement.{statement}
 use Rattle.texts.proofs.lines.space.Tie as tie

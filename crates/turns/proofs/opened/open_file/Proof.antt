@@ -1,4 +1,4 @@
--- `turns::opened::open_file` meets its contract.
+-- `turns::opened::open_file` meets its contract: the code is that of the file's check, and the port is the fresh one of the table that was read.
 use Rattle.turns.proofs.Turning.{opened-file}
 use borrow.Author.Needs.{needs}
 use Rattle.turns.proofs.opened.open_file.Statement.{statement}

@@ -1,4 +1,4 @@
--- `turns::turn::advanced` meets its contract.
+-- `turns::turn::advanced` meets its contract: the advance answers what the machine does, and that answer's bytes are put.
 use Rattle.turns.proofs.Turning.{stepped}
 use borrow.Author.Needs.{needs}
 use Rattle.turns.proofs.turn.advanced.Statement.{statement}
