@@ -46,7 +46,7 @@ answer-length (passed n Nothing) = refl
 answer-length (denied n p) = refl
 
 -- ---- bytes at the front of a buffer
-pub too-short : (bytes s : List ℕ) → length s < length bytes → s ≡ fronted bytes s
+too-short : (bytes s : List ℕ) → length s < length bytes → s ≡ fronted bytes s
 unfolding fronted
 too-short bytes s h = rw (lt-leb (length bytes) (length s) h) refl
 

@@ -9,8 +9,8 @@ use borrow.Author.Tests.{le-leb, lt-leb}
 use Rattle.table.specs.declared.Table.{Table}
 use Rattle.table.specs.Limits.{mostRows}
 use Rattle.table.specs.Rows.{noRow, rowsOf, contents}
-use Rattle.table.specs.Checks.{Outcome, accepted, refused, over}
-use Rattle.table.proofs.Laws.{never, rows-length}
+use Rattle.table.specs.Checks.{accepted, refused, over}
+use Rattle.table.proofs.Laws.{rows-length}
 use Rattle.planner.proofs.Laws.{accepted-if}
 use Rattle.tablefile.specs.Reading.{readFile}
 use Rattle.tablefile.proofs.Laws.{read-filled}
@@ -23,7 +23,7 @@ use Rattle.machine.specs.Run.{Event, event, Run, called}
 use Rattle.machine.proofs.Theorem.{every-run, run-placed}
 use Rattle.words.specs.Words.{flat, wordBytes}
 use Rattle.codes.specs.Codes.{codeOf, fileCheck}
-use Rattle.codes.proofs.Laws.{opened-accepted}
+use Rattle.codes.proofs.Laws.{first-one, kept, opened-accepted}
 use Rattle.recordbytes.specs.declared.Reading.{Reading}
 use Rattle.recordbytes.specs.Layout.{recordSize}
 use Rattle.recordbytes.specs.Record.{recordOver, stateOf, isRecord}
@@ -66,21 +66,17 @@ unfolding cleared
 cleared-length s h = rw (length-append, length-replicate, length-drop) (omega arith)
 
 module _ (file before : List ℕ) where
-  not-opened : {r n p : ℕ} → openCheck file (length before) ≡ refused n p → r ≡ codeOf (refused n p) → OpenedInto file before before r
-  not-opened q e = record { code = e ∙ sym (ap codeOf q); buffer = rw q refl; reached = λ z. never (sym q ∙ z) }
+  not-opened : {r : ℕ} → r ≡ codeOf (openCheck file (length before)) → (r ≡ 0 → ⊥) → OpenedInto file before before r
+  not-opened e h = record { code = e; buffer = kept (openCheck file (length before)) _ before e h; reached = λ z. absurd (h (e ∙ ap codeOf z)) }
 
   pub open-short : {r : ℕ} → length before < recordSize → r ≡ codeOf (refused 103 0) → OpenedInto file before before r
   unfolding openCheck
-  open-short h e = not-opened {n = 103} {p = 0} (rw (lt-leb recordSize (length before) h) refl) e
+  open-short h e = not-opened (rw (lt-leb recordSize (length before) h) e) (λ z. omega (arith, e, z))
 
   module _ (room : recordSize ≤ length before) {o : FilePort} (made : FileOpened file o) where
     pub open-refused : (o .code ≡ 0 → ⊥) → OpenedInto file before before (o .code)
     unfolding openCheck
-    open-refused h = by-file (fileCheck file) refl
-      where
-        by-file : (x : Outcome) → fileCheck file ≡ x → OpenedInto file before before (o .code)
-        by-file accepted q = absurd (h (made .code ∙ ap codeOf q))
-        by-file (refused n p) q = not-opened {n = n} {p = p} (rw (le-leb recordSize (length before) room, q) refl) (made .code ∙ ap codeOf q)
+    open-refused h = not-opened (rw (le-leb recordSize (length before) room, first-one (fileCheck file)) (made .code)) h
 
     -- the table that was read has zeros in its unused places
     own-table : o .code ≡ 0 → tableFrom (contents (o .port .table)) ≡ o .port .table
@@ -130,17 +126,19 @@ bytes-old (passed n x) s old e = absurd (false≢true e)
 bytes-old (denied n l) s old e = refl
 
 module _ (saved call before : List ℕ) where
-  not-called : {r n p : ℕ} → callCheck call (length before) ≡ refused n p → r ≡ codeOf (refused n p) → Called saved saved call before before r
-  not-called q e = record { code = e ∙ sym (ap codeOf q); answer = rw q refl; port = rw q refl; reached = λ z. never (sym q ∙ z) }
+  not-called : {r : ℕ} → r ≡ codeOf (callCheck call (length before)) → (r ≡ 0 → ⊥) → Called saved saved call before before r
+  not-called e h =
+      let o = callCheck call (length before) in
+      record { code = e; answer = kept o _ before e h; port = kept o _ saved e h; reached = λ z. absurd (h (e ∙ ap codeOf z)) }
 
   pub call-unread : {r : ℕ} → isReadable (readCall call) ≡ false → r ≡ codeOf (refused 102 0) → Called saved saved call before before r
   unfolding callCheck
-  call-unread h e = not-called {n = 102} {p = 0} (rw h refl) e
+  call-unread h e = not-called (rw h e) (λ z. omega (arith, e, z))
 
   module _ (known : isReadable (readCall call) ≡ true) where
     pub call-short : {r : ℕ} → length before < answerSize → r ≡ codeOf (refused 103 0) → Called saved saved call before before r
     unfolding callCheck
-    call-short h e = not-called {n = 103} {p = 0} (rw (known, lt-leb answerSize (length before) h) refl) e
+    call-short h e = not-called (rw (known, lt-leb answerSize (length before) h) e) (λ z. omega (arith, e, z))
 
     module _ (long-enough : answerSize ≤ length before) where
       abbrev c : Call
