@@ -6,7 +6,7 @@ use lib.ListN.{length}
 use borrow.Author.Tests.{le-leb, lt-leb}
 use Rattle.table.specs.Rows.{contents}
 use Rattle.table.specs.Checks as tables
-use Rattle.table.specs.Checks.{Outcome, accepted, refused, first, over}
+use Rattle.table.specs.Checks.{accepted, refused, first, over}
 use Rattle.planner.specs.declared.Sheet.{Sheet}
 use Rattle.planner.specs.Opening.{opening}
 use Rattle.planner.specs.Bound.{bounds}
@@ -16,7 +16,7 @@ use Rattle.tablefile.specs.declared.Writing.{Writing}
 use Rattle.tablefile.specs.Reading as files
 use Rattle.tablefile.specs.Reading.{readFile, Reads}
 use Rattle.tablefile.specs.Writing as writes
-use Rattle.tablefile.specs.Writing.{Writes, fileOf, writeCheck}
+use Rattle.tablefile.specs.Writing.{Writes, writeCheck}
 use Rattle.words.specs.Words.{flat, wordBytes}
 use Rattle.codes.specs.Codes.{codeOf, fileCheck}
 use Rattle.codes.proofs.Laws.{reading-zero, both-zero, first-one, first-code, kept, opened-accepted, checked}
@@ -59,8 +59,4 @@ module _ (file : List ℕ) (l : Loaded) (read : Reads file l) where
     unfolding rewriteCheck
     rewritten z w written er =
         let same : rewriteCheck file before ≡ writeCheck (contents (l .table)) before = rw (← read .answer, reading-zero (l .answer) (sym e ∙ z), ← read .table) (first-one (writeCheck (contents (l .table)) before)) in
-        record { code = rw (same, ← written .answer) er; buffer = rw (same, ← read .table) (written .buffer ∙ as-over (writeCheck (contents (l .table)) before) (fileOf (contents (l .table))) before) }
-      where
-        as-over : (o : Outcome) (bytes s : List ℕ) → tables.over o bytes s ≡ over o bytes s
-        as-over accepted bytes s = refl
-        as-over (refused n p) bytes s = refl
+        record { code = rw (same, ← written .answer) er; buffer = rw (same, ← read .table) (written .buffer) }

@@ -17,11 +17,11 @@ use Rattle.machine.specs.Record.{allOf, onSending, namesRow, isBest, row
 use Rattle.machine.proofs.OneClass.{All}
 
 -- ---- facts from tests
-abbrev Each : List Bool → Type 0
+abbrev pub Each : List Bool → Type 0
 Each [] = Unit {0}
 Each (b ∷ bs) = (b ≡ true) × Each bs
 
-each-true : (bs : List Bool) → allTrue bs ≡ true → Each bs
+pub each-true : (bs : List Bool) → allTrue bs ≡ true → Each bs
 each-true [] e = tt
 each-true (b ∷ bs) e = let p = table.and-true b (allTrue bs) e in (p .0, each-true bs (p .1))
 

@@ -9,6 +9,7 @@ use native.Mathlib.Omega.{arith}
 use lib.ListN.{length, take, replicate}
 use Rattle.table.proofs.Laws.{and-true}
 use Rattle.machine.specs.Record.{allTrue}
+use Rattle.machine.proofs.FromSound.{Each}
 use Rattle.words.specs.Words.{Every, gathered}
 use Rattle.words.proofs.Laws.{Held, HeldEach}
 use Rattle.recordbytes.specs.Record.{each}
@@ -32,14 +33,6 @@ module _ {X : Type 0} (P : X → Type 0) where
   every-map f Q g (y ∷ ys) h = (g y (h .0), every-map f Q g ys (h .1))
 
 -- tests that all hold
-abbrev pub Each : List Bool → Type 0
-Each [] = Unit {0}
-Each (b ∷ bs) = (b ≡ true) × Each bs
-
-pub each-true : (bs : List Bool) → allTrue bs ≡ true → Each bs
-each-true [] e = tt
-each-true (b ∷ bs) e = let p = and-true b (allTrue bs) e in (p .0, each-true bs (p .1))
-
 pub true-each : (bs : List Bool) → Each bs → allTrue bs ≡ true
 true-each [] h = refl
 true-each (b ∷ bs) h = rw (h .0) (true-each bs (h .1))

@@ -10,11 +10,11 @@ use Rattle.table.specs.Limits.{mostRows}
 use Rattle.table.proofs.Laws.{and-true}
 use Rattle.machine.specs.Limits.{classPlaces, bestPlaces}
 use Rattle.machine.specs.State.{Placed}
+use Rattle.machine.proofs.FromSound.{Each, each-true}
 use Rattle.words.specs.Words.{wordAt}
 use Rattle.words.proofs.Laws.{gathered-length}
 use Rattle.recordbytes.specs.Layout.{version, headStart, rowsStart, queueaStart, queuebStart, bestStart, lastStart, idleaPlace, idlebPlace, payloadPlace, countPlace, rowWidth, frameWidth, lastWidth, recordSize}
 use Rattle.recordbytes.specs.Record.{rowAt, frameAt, instantAt, stateOf, fitsU16, fitsU32, headFits, queueFits, recordTests, isRecord}
-use Rattle.recordbytes.proofs.Lists.{Each, each-true}
 
 pub record Head (s : List ℕ) : Type 0 where
   pub version : wordAt s headStart ≡ version
