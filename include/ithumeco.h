@@ -4,10 +4,10 @@
  * what each refusal says.
  *
  * Every buffer is a pointer, not NULL, and a length, of any length, and the
- * buffers of one call do not overlap. Where a function returns anything but 0 nothing is
- * written; otherwise bytes behind what is written keep their values. A function
- * keeps nothing between calls, so it may be called from several threads at a
- * time, on different buffers.
+ * buffers of one call do not overlap. Where a function returns anything but 0
+ * nothing is written; otherwise bytes behind what is written keep their values.
+ * A function keeps nothing between calls, so it may be called from several
+ * threads at a time, on different buffers.
  */
 #ifndef ITHUMECO_H
 #define ITHUMECO_H
