@@ -17,21 +17,21 @@
 
 /* The version of the bytes that this header speaks of: a record's first word. A
  * record of another version is answered ITHUMECO_BROKEN and never misread. */
-#define ITHUMECO_VERSION 1000001
+#define ITHUMECO_VERSION 1000002
 
 /* Sizes in bytes. */
 #define ITHUMECO_CALL_SIZE 24
 #define ITHUMECO_ANSWER_SIZE 40
-#define ITHUMECO_RECORD_SIZE 3584
+#define ITHUMECO_RECORD_SIZE 4096
 #define ITHUMECO_BOUNDS_SIZE 256
 
 /* The largest table file, in bytes. */
-#define ITHUMECO_MOST_FILE 367
+#define ITHUMECO_MOST_FILE 399
 
 /* Where a record has its clock and the credits of the two classes: words. */
-#define ITHUMECO_CLOCK_WORD 133
-#define ITHUMECO_CREDIT_A_WORD 134
-#define ITHUMECO_CREDIT_B_WORD 135
+#define ITHUMECO_CLOCK_WORD 197
+#define ITHUMECO_CREDIT_A_WORD 198
+#define ITHUMECO_CREDIT_B_WORD 199
 
 /* The most byte-times of one advance, and the clock's last value. */
 #define ITHUMECO_MOST_ADVANCE 65535
@@ -58,6 +58,7 @@
 #define ITHUMECO_VALUE 5
 #define ITHUMECO_STATES_DEFAULT 6
 #define ITHUMECO_TRAILING 7
+#define ITHUMECO_PERIOD_AND_RATE 19
 /* a table: */
 #define ITHUMECO_SLOPES 8
 #define ITHUMECO_SHARES 9

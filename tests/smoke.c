@@ -1,4 +1,4 @@
-/* Calls each function of include/ithumeco.h on the specimen, holds what it gives to document 01's numbers, and holds the header's names to the library. */
+/* Calls each function of include/ithumeco.h on the specimen, and some on a row that names a rate; holds what it gives to the documents' numbers, and the header's names to the library. */
 #include <stdio.h>
 #include <string.h>
 #include "ithumeco.h"
@@ -59,7 +59,8 @@ static void refused_files(void)
     refused("a file that ends", 0, "", 0, size - 1, ITHUMECO_FILE_ENDS, 26);
     refused("other letters", 3, "9", 1, size, ITHUMECO_LETTERS, 0);
     refused("no rows", 14, "\0", 1, size, ITHUMECO_ROW_COUNT, 14);
-    refused("map bit 3", 15, "\11", 1, size, ITHUMECO_MAP_BIT, 15);
+    refused("map bit 4", 15, "\21", 1, size, ITHUMECO_MAP_BIT, 15);
+    refused("map bits 1 and 3", 15, "\13", 1, size, ITHUMECO_PERIOD_AND_RATE, 15);
     refused("a payload of 1,756", 12, "\6", 1, size, ITHUMECO_VALUE, 12);
     refused("a stated default", 16, "\0\52", 2, size, ITHUMECO_STATES_DEFAULT, 16);
     refused("a byte too many", 0, "", 0, size + 1, ITHUMECO_TRAILING, 28);
@@ -68,10 +69,10 @@ static void refused_files(void)
     refused("a deadline below the bound", 21, "\0\0\14\105", 4, size, ITHUMECO_DEADLINE, 1);
 }
 
-/* 32 rows that state every field: no file is larger. */
+/* 32 rows that state a rate and every other field that may stand beside it: no file is larger. */
 static void largest_file(void)
 {
-    static const uint8_t row[] = {7, 0, 43, 0, 1, 0, 0, 0, 0, 255, 255};
+    static const uint8_t row[] = {13, 0, 43, 0, 0, 255, 255, 0, 0, 3, 232, 255};
     static uint8_t large[ITHUMECO_MOST_FILE], again[ITHUMECO_MOST_FILE];
     memcpy(large, file, 15);
     large[14] = 32;
@@ -106,6 +107,31 @@ static void runs(void)
     expect("credit of A", ithumeco_get_word(record, ITHUMECO_CREDIT_A_WORD), (uint64_t)-75000000);
     expect("credit of B", ithumeco_get_word(record, ITHUMECO_CREDIT_B_WORD), 0);
     expect("open, too short", ithumeco_open(file, size, record, sizeof record - 1), ITHUMECO_TOO_SHORT);
+}
+
+/* A table of one row, six samples at 44,100 Hz: 17,006 byte-times. Its file, the row's words in a record, and its calls. */
+static void rated(void)
+{
+    static const uint8_t row[] = {9, 0, 58, 0, 0, 172, 68, 6};
+    static const uint64_t words[] = {0, 58, 17006, 1, 44100, 6};
+    static uint8_t one[15 + sizeof row], again[sizeof one];
+    memcpy(one, file, 15);
+    memset(one + 8, 0, 4); /* no slope for B */
+    one[14] = 1;
+    memcpy(one + 15, row, sizeof row);
+    expect("rewrite a rate", ithumeco_rewrite(one, sizeof one, again, sizeof again), 0);
+    expect("its copy differs", memcmp(one, again, sizeof one) != 0, 0);
+    expect("open a rate", ithumeco_open(one, sizeof one, record, sizeof record), 0);
+    for (size_t k = 0; k < 6; k++)
+        expect("a word of row 0", ithumeco_get_word(record, 5 + k), words[k]);
+    expect("taken", made(ITHUMECO_OFFER, 0, 58), 0);
+    expect("its end", made(ITHUMECO_ADVANCE, 100, 0), 0);
+    expect("time passes", made(ITHUMECO_ADVANCE, 16905, 0), 0);
+    expect("early", made(ITHUMECO_OFFER, 0, 58), ITHUMECO_EARLY);
+    expect("one byte-time more", made(ITHUMECO_ADVANCE, 1, 0), 0);
+    expect("in time", made(ITHUMECO_OFFER, 0, 58), 0);
+    ithumeco_put_word(record, 8, 2);
+    expect("neither a period nor a rate", made(ITHUMECO_ADVANCE, 0, 0), ITHUMECO_BROKEN);
 }
 
 static void refusals(void)
@@ -158,6 +184,7 @@ int main(void)
     refused_files();
     largest_file();
     runs();
+    rated();
     refusals();
     nothing();
     return failures != 0;

@@ -30,6 +30,7 @@ fault-code faults.MapBit p e = omega (arith, e)
 fault-code faults.OutOfRange p e = omega (arith, e)
 fault-code faults.StatesDefault p e = omega (arith, e)
 fault-code faults.Trailing p e = omega (arith, e)
+fault-code faults.TwoPaces p e = omega (arith, e)
 
 refusal-code : (r : Refusal) (p : ℕ) → codeOf (refused (tables.numberOf r) p) ≡ 0 → ⊥
 refusal-code refusals.RowCount p e = omega (arith, e)

@@ -1,34 +1,61 @@
--- Document 01's facts (a) to (g), by computing the definitions.
+-- Document 01's facts (a) to (g) and those of rows that name a sample rate, by computing the definitions.
+use Prim.Native.Nat.{ℕ, _+_, _-_, _≤_}
+use mathlib.Core.Bool.{false}
 use mathlib.Core.List.{[], _∷_}
-use mathlib.Core.Path.{_≡_, refl, ap}
+use mathlib.Core.Path.{_≡_, refl, _∙_, ap}
+use native.Mathlib.Omega.{arith}
 use lib.IntN.{pos}
-use Rattle.table.specs.Wire.{ceilDiv, wireSize, sizeFor, sizeOf, periodOf, shareOf}
+use borrow.Author.Tests.{le-ltb}
+use Rattle.table.specs.Wire.{ceilDiv, wireSize, sizeFor, sizeOf, paced, periodOf, shareOf}
 use Rattle.table.specs.Rows.{rowsOf, inUse}
-use Rattle.table.specs.Checks.{passing}
-use Rattle.table.specs.Ranges.{countOk, headerOk, rowOk, ranged}
+use Rattle.table.specs.Checks.{accepted, passing}
+use Rattle.table.specs.Ranges.{countOk, headerOk, paceOk, rowOk, ranged}
+use Rattle.table.proofs.Laws.{rated-period}
 use Rattle.planner.specs.Sums.{sumOver, maxOver, members, largest, total, shares, bestSize}
 use Rattle.planner.specs.Bound.{blocking, residenceIn, residence, bound, bounds}
 use Rattle.planner.specs.Opening.{usedOk, slopesOk, sharesOk, timely, opening}
 use Rattle.machine.specs.Limits.{mostOf}
 use Rattle.machine.specs.declared.Wire.the-variants.{Free}
-use Rattle.machine.specs.State.{State, never, at, fresh}
+use Rattle.machine.specs.State.{Instant, never, at, State, fresh}
 use Rattle.machine.specs.Time.{owner, start, reportedIn, byteTime, endsIn, progress}
 use Rattle.machine.specs.Record.{tableSound, clockSound, creditSound, bestSound, namesSound, queuesSound, sizesSound, leftSound, framesTaken, rowsTaken, held, heldSound, latestSound, ageSound, sound}
-use Rattle.machine.specs.Calls.{offer, advance, after, answer, offerCheck, bestCheck, advanceCheck, takeRow, takeBest}
-use Rattle.tablefile.specs.Layout.{valueAt, bytesOf, defaultOf, bitOf}
-use Rattle.tablefile.specs.Reading.{opens, header, rowFrom, row, rowsChecks, rowsFrom, rowsEnd, readFile}
+use Rattle.machine.specs.Calls.{offer, advance, tooSoon, after, answer, offerCheck, bestCheck, advanceCheck, takeRow, takeBest}
+use Rattle.machine.specs.Run.{clockOf, lastTaken}
+use Rattle.machine.proofs.EveryList.{every-list-ran}
+use Rattle.tablefile.specs.Layout.{valueAt, bytesOf, defaultPayload, defaultPeriod, defaultDeadline, bitOf}
+use Rattle.tablefile.specs.Reading.{opens, header, pacedFrom, rowFrom, row, rowsChecks, rowsFrom, rowsEnd, readFile}
 use Rattle.tablefile.specs.Writing.{mapByte, rowBytes, rowsBytes, headerBytes, fileOf}
-use Rattle.facts.specs.Specimen.{specimen}
-use Rattle.facts.specs.Facts.{port, inG, Facts}
+use Rattle.facts.specs.Specimen.{specimen, sampled, sampledTable}
+use Rattle.facts.specs.Facts.{played, port, inG, soon, twice, NeverEarly, Facts}
 
 -- the port of (g) before the second offer: worked out once, for three facts
 abbrev stateG : State
 stateG = record { table = specimen; clock = 15624; credita = pos 0; creditb = pos 0; a = []; b = []; best = []; last = at 0 ∷ never ∷ never ∷ []; wire = Free }
 
+-- those of the sampled specimen: at a clock, row 0's last frame taken at an instant
+abbrev stateAt : ℕ → ℕ → State
+stateAt now taken = record { table = sampled; clock = now; credita = pos 0; creditb = pos 0; a = []; b = []; best = []; last = at taken ∷ never ∷ never ∷ []; wire = Free }
+
+-- demand 3's claim about offers that come in time
+not-soon : (l : Instant) (now instant gap : ℕ) → l ≡ at instant → now ≡ instant + gap → 17006 ≤ gap → tooSoon l now 17006 ≡ false
+not-soon l now instant gap e f h = rw e (le-ltb (now - instant) 17006 (omega arith))
+
+accepts : opening sampled ≡ accepted
+unfolding ceilDiv wireSize sizeFor sizeOf paced periodOf shareOf rowsOf inUse passing countOk headerOk paceOk rowOk ranged sumOver maxOver members largest total shares bestSize blocking residenceIn residence bound bounds usedOk slopesOk sharesOk timely opening
+accepts = refl
+
+never-early : NeverEarly
+unfolding rowsOf periodOf paced
+never-early cs payload instant gap a before h few last long now =
+    let d = every-list-ran sampledTable accepts cs .demand3 in
+    d .space 0 payload a before h (record { below = omega arith }) few (not-soon (lastTaken 0 before) (clockOf before) instant gap last now long)
+
 pub facts : Facts
-unfolding ceilDiv wireSize sizeFor sizeOf periodOf shareOf rowsOf inUse passing countOk headerOk rowOk ranged sumOver maxOver members largest total shares bestSize blocking residenceIn residence bound bounds usedOk slopesOk sharesOk timely opening mostOf fresh owner start reportedIn byteTime endsIn progress tableSound clockSound creditSound bestSound namesSound queuesSound sizesSound leftSound framesTaken rowsTaken held heldSound latestSound ageSound sound offerCheck bestCheck advanceCheck takeRow takeBest valueAt bytesOf defaultOf bitOf opens header rowFrom row rowsChecks rowsFrom rowsEnd readFile mapByte rowBytes rowsBytes headerBytes fileOf
+unfolding ceilDiv wireSize sizeFor sizeOf paced periodOf shareOf rowsOf inUse passing countOk headerOk paceOk rowOk ranged sumOver maxOver members largest total shares bestSize blocking residenceIn residence bound bounds usedOk slopesOk sharesOk timely opening mostOf fresh owner start reportedIn byteTime endsIn progress tableSound clockSound creditSound bestSound namesSound queuesSound sizesSound leftSound framesTaken rowsTaken held heldSound latestSound ageSound sound offerCheck bestCheck advanceCheck takeRow takeBest valueAt bytesOf defaultPayload defaultPeriod defaultDeadline bitOf opens header pacedFrom rowFrom row rowsChecks rowsFrom rowsEnd readFile mapByte rowBytes rowsBytes headerBytes fileOf
 facts =
     let g : port inG ≡ stateG = refl in
+    let o : played (fresh sampled) soon ≡ stateAt 17005 0 = refl in
+    let w : played (stateAt 17006 0) twice ≡ stateAt 34013 17006 = refl in
     record {
       table = refl;
       reads = refl;
@@ -53,4 +80,18 @@ facts =
       g-taken = ap (λ s. answer (after s (advance 1)) (offer 0 58)) g;
       f-3142 = refl;
       f-3141 = refl;
+      rate-44100 = refl;
+      rate-48000 = refl;
+      rate-shortest = refl;
+      rate-longest = refl;
+      rate-range = rated-period;
+      rate-reads = refl;
+      rate-writes = refl;
+      rate-periods = refl;
+      rate-bounds = refl;
+      rate-accepts = refl;
+      turn-first = ap (λ s. answer (after s (advance 1)) (offer 0 58)) o;
+      turn-second = ap (λ s. answer (played (after s (advance 1)) twice) (offer 0 58)) o ∙ ap (λ s. answer s (offer 0 58)) w;
+      turn-early = ap (λ s. answer s (offer 0 58)) o;
+      turn-always = never-early;
     }

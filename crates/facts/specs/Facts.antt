@@ -1,20 +1,25 @@
--- One table of facts: what the definitions themselves give for the specimen.
+-- One table of facts: what the definitions themselves give for the specimen, and for the same with two rows that name a sample rate.
+use Prim.Native.Nat.{ℕ, _+_, _≤_}
 use mathlib.Core.List.{List, [], _∷_, map}
+use mathlib.Core.Bool.{true}
 use mathlib.Core.Path.{_≡_}
 use lib.IntN.{pos, negsuc}
 use lib.ListN.{replicate}
 use Rattle.table.specs.declared.Class.the-variants.{A, B}
-use Rattle.table.specs.Wire.{wireSize, sizeOf, shareOf}
+use Rattle.table.specs.declared.Pace.the-variants.{Rated}
+use Rattle.table.specs.Wire.{wireSize, sizeOf, paced, periodOf, shareOf}
 use Rattle.table.specs.Rows.{contents}
 use Rattle.table.specs.Checks.{accepted, refused}
+use Rattle.table.specs.Ranges.{paceOk}
 use Rattle.planner.specs.Bound.{blocking, bounds}
 use Rattle.planner.specs.Opening.{opening}
 use Rattle.machine.specs.declared.Ended.the-variants.{Reported}
-use Rattle.machine.specs.State.{State, fresh}
-use Rattle.machine.specs.Calls.{Call, offer, offerBest, advance, taken, passed, denied, after, answer}
+use Rattle.machine.specs.State.{State, at, fresh}
+use Rattle.machine.specs.Calls.{Call, offer, offerBest, advance, Answer, taken, passed, denied, after, answer}
+use Rattle.machine.specs.Run.{Event, event, clockOf, answered, Happened, lastTaken}
 use Rattle.tablefile.specs.Reading.{readFile}
 use Rattle.tablefile.specs.Writing.{fileOf}
-use Rattle.facts.specs.Specimen.{specimen, specimenWith, specimenTable, specimenBytes}
+use Rattle.facts.specs.Specimen.{specimen, specimenWith, specimenTable, specimenBytes, sampled, sampledTable, sampledBytes}
 
 -- The port after calls, the first one first.
 abbrev pub played : State → List Call → State
@@ -35,6 +40,21 @@ inE = offer 0 58 ∷ advance 5000 ∷ offer 1 258 ∷ []
 -- (g): row 0 offered 15,624 after its last is 13, at 15,625 taken.
 abbrev pub inG : List Call
 inG = offer 0 58 ∷ advance 100 ∷ advance 15524 ∷ []
+
+-- A frame of row 0 of the sampled specimen, and then 17,005 byte-times, 17,006, and 17,007.
+abbrev pub soon : List Call
+soon = offer 0 58 ∷ advance 100 ∷ advance 16905 ∷ []
+
+abbrev pub once : List Call
+once = offer 0 58 ∷ advance 100 ∷ advance 16905 ∷ advance 1 ∷ []
+
+abbrev pub twice : List Call
+twice = offer 0 58 ∷ advance 100 ∷ advance 16907 ∷ []
+
+-- In every list of calls on the sampled specimen's port, an offer to row 0, of at most its payload, that comes 17,006 byte-times or more after its last frame was taken is taken: a stream that is
+-- offered every 17,006 and 17,007 byte-times in turn is never early.
+abbrev pub NeverEarly : Type 0
+NeverEarly = (cs : List Call) (payload instant gap : ℕ) (a : Answer) (before : List Event) → Happened (event (offer 0 payload) a) before (answered sampled cs) → payload ≤ 58 → lastTaken 0 before ≡ at instant → 17006 ≤ gap → clockOf before ≡ instant + gap → a ≡ taken
 
 pub record Facts : Type 0 where
   -- the table record says what the specimen says
@@ -66,3 +86,19 @@ pub record Facts : Type 0 where
   -- (f) deadline 3142 for row 1 accepted, 3141 refused with 10
   pub f-3142 : opening (specimenWith 3142) ≡ accepted
   pub f-3141 : opening (specimenWith 3141) ≡ refused 10 1
+  -- rows that name a sample rate: periods; a file with such rows, read and written; the table is accepted, and its bounds are the specimen's, since sizes and slopes are
+  pub rate-44100 : paced (Rated 6 44100) ≡ 17006
+  pub rate-48000 : paced (Rated 6 48000) ≡ 15625
+  pub rate-shortest : paced (Rated 1 200000) ≡ 625
+  pub rate-longest : paced (Rated 255 1000) ≡ 31875000
+  pub rate-range : (samples rate : ℕ) → paceOk (Rated samples rate) ≡ true → (625 ≤ paced (Rated samples rate)) × (paced (Rated samples rate) ≤ 31875000)
+  pub rate-reads : readFile sampledBytes ≡ record { outcome = accepted; table = sampledTable }
+  pub rate-writes : fileOf sampled ≡ sampledBytes
+  pub rate-periods : map periodOf (sampled .rows) ≡ 17006 ∷ 15625 ∷ 31250 ∷ []
+  pub rate-bounds : bounds sampled ≡ bounds specimen
+  pub rate-accepts : opening sampled ≡ accepted
+  -- offered after 17,006 byte-times and again after 17,007 the stream is taken, after 17,005 it is early; and it is never early in turn
+  pub turn-first : answer (played (fresh sampled) once) (offer 0 58) ≡ taken
+  pub turn-second : answer (played (played (fresh sampled) once) twice) (offer 0 58) ≡ taken
+  pub turn-early : answer (played (fresh sampled) soon) (offer 0 58) ≡ denied 13 0
+  pub turn-always : NeverEarly

@@ -1,21 +1,26 @@
--- Document 01's specimen port: what its table says, the table record that its file is read into, and the file's bytes.
+-- Document 01's specimen port: what its table says, the table record that its file is read into, and the file's bytes; and the same with two rows that name a sample rate.
 use Prim.Native.Nat.{ℕ}
 use mathlib.Core.List.{List, [], _∷_, _++_}
 use lib.ListN.{replicate}
 use Rattle.table.specs.declared.Class.the-variants.{A, B}
+use Rattle.table.specs.declared.Pace.the-variants.{Period, Rated}
+use Rattle.table.specs.declared.Row.{Row}
+use Rattle.table.specs.declared.Header.{Header}
 use Rattle.table.specs.declared.Table.{Table}
 use Rattle.table.specs.Rows.{noRow, Contents}
+
+abbrev pub specimenHeader : Header
+specimenHeader = record { idlea = 250000; idleb = 200000; payload = 1500 }
+
+abbrev pub rowB : Row
+rowB = record { class = B; payload = 458; pace = Period 31250; deadline = 31250 }
 
 -- The specimen with a given deadline for row 1.
 abbrev pub specimenWith : ℕ → Contents
 specimenWith d =
     record {
-      header = record { idlea = 250000; idleb = 200000; payload = 1500 };
-      rows =
-          record { class = A; payload = 58; period = 15625; deadline = 15625 }
-          ∷ record { class = A; payload = 258; period = 15625; deadline = d }
-          ∷ record { class = B; payload = 458; period = 31250; deadline = 31250 }
-          ∷ [];
+      header = specimenHeader;
+      rows = record { class = A; payload = 58; pace = Period 15625; deadline = 15625 } ∷ record { class = A; payload = 258; pace = Period 15625; deadline = d } ∷ rowB ∷ [];
     }
 
 abbrev pub specimen : Contents
@@ -35,5 +40,29 @@ specimenBytes =
     ∷ 0x03
     ∷ 0x01 ∷ 0x00 ∷ 0x3A
     ∷ 0x05 ∷ 0x01 ∷ 0x02 ∷ 0x00 ∷ 0x00 ∷ 0x17 ∷ 0x70
+    ∷ 0x81 ∷ 0x01 ∷ 0xCA
+    ∷ []
+
+-- The specimen with six samples a frame in rows 0 and 1, at 44,100 Hz and at 48,000: the period of row 1 is its class's default, and yet it is rated.
+abbrev pub sampled : Contents
+sampled =
+    record {
+      header = specimenHeader;
+      rows = record { class = A; payload = 58; pace = Rated 6 44100; deadline = 17006 } ∷ record { class = A; payload = 258; pace = Rated 6 48000; deadline = 6000 } ∷ rowB ∷ [];
+    }
+
+abbrev pub sampledTable : Table
+sampledTable = record { header = specimenHeader; count = 3; rows = sampled .rows ++ replicate 29 noRow }
+
+-- Its file, 38 bytes: behind payload and deadline rate and samples.
+abbrev pub sampledBytes : List ℕ
+sampledBytes =
+    0x41 ∷ 0x56 ∷ 0x42 ∷ 0x31
+    ∷ 0x00 ∷ 0x03 ∷ 0xD0 ∷ 0x90
+    ∷ 0x00 ∷ 0x03 ∷ 0x0D ∷ 0x40
+    ∷ 0x05 ∷ 0xDC
+    ∷ 0x03
+    ∷ 0x09 ∷ 0x00 ∷ 0x3A ∷ 0x00 ∷ 0x00 ∷ 0xAC ∷ 0x44 ∷ 0x06
+    ∷ 0x0D ∷ 0x01 ∷ 0x02 ∷ 0x00 ∷ 0x00 ∷ 0x17 ∷ 0x70 ∷ 0x00 ∷ 0x00 ∷ 0xBB ∷ 0x80 ∷ 0x06
     ∷ 0x81 ∷ 0x01 ∷ 0xCA
     ∷ []

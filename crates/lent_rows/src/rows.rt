@@ -8,11 +8,13 @@ ghost use Rattle.lent_rows.specs.Steps.{enough, noRows, Pushed};
 use planner::Sheet;
 use table::Class;
 use table::Header;
+use table::Pace;
 use table::ROWS;
 use table::Refusal;
 use table::Row;
 use table::Table;
 use table::Verdict;
+use table::rows::no_row;
 
 // The fewest rows that are too many.
 const ENOUGH: usize = ROWS + 1;
@@ -21,12 +23,7 @@ const ENOUGH: usize = ROWS + 1;
 fn empty(header: Header) -> Table
     ensures { λ r. ⌜ r ≡ noRows header ⌝ }
 {
-    let none = Row {
-        class: Class::A,
-        payload: 0,
-        period: 0,
-        deadline: 0,
-    };
+    let none = no_row();
     Table {
         header,
         count: 0,
@@ -35,14 +32,14 @@ fn empty(header: Header) -> Table
 }
 
 // A table with one more row. Of the rows that find no place only the first is counted.
-fn push(t: Table, class: Class, payload: u16, period: u32, deadline: u32) -> Table
-    ensures { λ r. ⌜ Pushed t (record { class = class; payload = payload; period = period; deadline = deadline }) r ⌝ }
+fn push(t: Table, class: Class, payload: u16, pace: Pace, deadline: u32) -> Table
+    ensures { λ r. ⌜ Pushed t (record { class = class; payload = payload; pace = pace; deadline = deadline }) r ⌝ }
 {
     let n = t.count;
     let row = Row {
         class,
         payload,
-        period,
+        pace,
         deadline,
     };
     let mut longer = t;
@@ -71,7 +68,7 @@ pub fn bounds(header: Header, rows: &[Row]) -> Sheet
     let mut i: usize = 0;
     while i < n {
         let row = &rows[i];
-        t = push(t, row.class, row.payload, row.period, row.deadline);
+        t = push(t, row.class, row.payload, row.pace, row.deadline);
         i += 1;
     }
     planner::bounds(t)

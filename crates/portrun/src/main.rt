@@ -94,7 +94,7 @@ fn played(file: &[u8]) -> Run
     calls(written(first, &out[..n]))
 }
 
-// A table file has at most 367 bytes, so a longer one is refused by what these bytes hold. Where fewer come, one more
+// A table file has at most 399 bytes, so a longer one is refused by what these bytes hold. Where fewer come, one more
 // read tells the file's end from a read that fails.
 fn main() {
     let fd = os::open_read(b"table.avb");

@@ -3,7 +3,7 @@ use libc::STDIN_FILENO;
 use libc::STDOUT_FILENO;
 use sheets::sheet::put_sheet;
 
-// A table file has at most 367 bytes, so a longer input is refused by what these bytes hold.
+// A table file has at most 399 bytes, so a longer input is refused by what these bytes hold.
 fn main() {
     let mut input = [0u8; 512];
     let read = io::read_full(STDIN_FILENO, &mut input);

@@ -1,4 +1,4 @@
--- One field, row, frame, instant or wire: its words give it back, pass the test, and are those of what the test lets pass.
+-- One field, pace, row, frame, instant or wire: its words give it back, pass the test, and are those of what the test lets pass.
 use Prim.Native.Nat.{ℕ, _+_, _-_, _<_, _^_}
 use mathlib.Core.Bool.{Bool, true, false, cond, _&&_}
 use mathlib.Core.List.{List}
@@ -11,6 +11,8 @@ use borrow.Author.Needs.{needs}
 use borrow.Author.Tests.{le-leb, lt-leb, leb-true, leb-false, eqb-true, eqb-false}
 use Rattle.table.specs.declared.Class.{Class}
 use Rattle.table.specs.declared.Class.the-variants.{A, B}
+use Rattle.table.specs.declared.Pace.{Pace}
+use Rattle.table.specs.declared.Pace.the-variants.{Period, Rated}
 use Rattle.table.specs.declared.Row.{Row}
 use Rattle.table.proofs.Laws.{and-true}
 use Rattle.machine.specs.declared.Frame.{Frame}
@@ -20,16 +22,22 @@ use Rattle.machine.specs.State.{Instant, never, at}
 use Rattle.words.specs.Words.{Every, Word, Bytes, wordAt}
 use Rattle.words.proofs.Laws.{Held, word-small}
 use Rattle.recordbytes.specs.Layout.{frameWidth}
-use Rattle.recordbytes.specs.Record.{classWord, rowWords, signedWord, frameWords, lastWords, wireWords, u16Of, u32Of, classOf, signedOf, rowAt, frameAt, instantAt, wireAt, fitsU16, fitsU32, fitsMark, rowFits, frameFits, lastFits, wireFits}
-use Rattle.recordbytes.specs.Fits.{RowFits, FrameFits, InstantFits, WireFits}
+use Rattle.recordbytes.specs.Record.{classWord, paceWords, rowWords, signedWord, frameWords, lastWords, wireWords, u8Of, u16Of, u32Of, classOf, signedOf, paceAt, rowAt, frameAt, instantAt, wireAt, fitsU8, fitsU16, fitsU32, fitsMark, paceFits, rowFits, frameFits, lastFits, wireFits}
+use Rattle.recordbytes.specs.Fits.{PaceFits, RowFits, FrameFits, InstantFits, WireFits}
 use Rattle.recordbytes.proofs.Lists.{both}
 
 -- ---- a field's word gives the field back, and passes the test
+u8-back : {w v : ℕ} → w ≡ v → v < 2 ^ 8 → u8Of w ≡ v
+u8-back e h = rw e (omega arith)
+
 pub u16-back : {w v : ℕ} → w ≡ v → v < 2 ^ 16 → u16Of w ≡ v
 u16-back e h = rw e (omega arith)
 
 pub u32-back : {w v : ℕ} → w ≡ v → v < 2 ^ 32 → u32Of w ≡ v
 u32-back e h = rw e (omega arith)
+
+u8-fits : {w v : ℕ} → w ≡ v → v < 2 ^ 8 → fitsU8 w ≡ true
+u8-fits {w} e h = le-leb w 255 (omega arith)
 
 pub u16-fits : {w v : ℕ} → w ≡ v → v < 2 ^ 16 → fitsU16 w ≡ true
 u16-fits {w} e h = le-leb w 65535 (omega arith)
@@ -53,6 +61,9 @@ signed-back (negsuc n) e h =
     rw (e, lt-leb _ 9223372036854775807 big, back) refl
 
 -- ---- a word that passes is the word of the field that it gives
+u8-same : (w : ℕ) → fitsU8 w ≡ true → w ≡ u8Of w
+u8-same w e = omega (arith, leb-true w 255 e)
+
 pub u16-same : (w : ℕ) → fitsU16 w ≡ true → w ≡ u16Of w
 u16-same w e = omega (arith, leb-true w 65535 e)
 
@@ -84,6 +95,9 @@ pub signed-word : (z : ℤ) → mag z < 2 ^ 63 → Word (signedWord z)
 signed-word (pos n) h = omega arith
 signed-word (negsuc n) h = omega arith
 
+u8-small : (w : ℕ) → u8Of w < 2 ^ 8
+u8-small w = omega arith
+
 u16-small : (w : ℕ) → u16Of w < 2 ^ 16
 u16-small w = omega arith
 
@@ -92,22 +106,57 @@ u32-small w = omega arith
 
 -- ---- the parts, in bytes s
 module _ (s : List ℕ) where
-  -- the places of a word's second and third neighbour
+  -- the place of a word's second neighbour, and what stands from the third on
   second : (k w : ℕ) → wordAt s (k + 1 + 1) ≡ w → wordAt s (k + 2) ≡ w
   second k w h = let e : k + 1 + 1 ≡ k + 2 = omega arith in rw e at h
 
-  third : (k w : ℕ) → wordAt s (k + 1 + 1 + 1) ≡ w → wordAt s (k + 3) ≡ w
-  third k w h = let e : k + 1 + 1 + 1 ≡ k + 3 = omega arith in rw e at h
+  from-third : (k : ℕ) (ws : List ℕ) → Held s (k + 1 + 1 + 1) ws → Held s (k + 3) ws
+  from-third k ws h = let e : k + 1 + 1 + 1 ≡ k + 3 = omega arith in rw e at h
 
   to-second : (k w : ℕ) → wordAt s (k + 2) ≡ w → wordAt s (k + 1 + 1) ≡ w
   to-second k w h = let e : k + 1 + 1 ≡ k + 2 = omega arith in rw e h
 
-  to-third : (k w : ℕ) → wordAt s (k + 3) ≡ w → wordAt s (k + 1 + 1 + 1) ≡ w
-  to-third k w h = let e : k + 1 + 1 + 1 ≡ k + 3 = omega arith in rw e h
+  to-third : (k : ℕ) (ws : List ℕ) → Held s (k + 3) ws → Held s (k + 1 + 1 + 1) ws
+  to-third k ws h = let e : k + 1 + 1 + 1 ≡ k + 3 = omega arith in rw e h
+
+  -- a pace
+  pace-words : (p : Pace) → PaceFits p → Every Word (paceWords p)
+  pace-words (Period p) f = (omega arith, (omega arith, tt))
+  pace-words (Rated samples rate) f = (omega arith, (omega (arith, f .0), (omega (arith, f .1), tt)))
+
+  pace-back : (p : Pace) (k : ℕ) → PaceFits p → Held s k (paceWords p) → paceAt s k ≡ p
+  unfolding paceAt
+  pace-back (Period p) k f h = rw (h .0, u32-back (h .1 .0) f) refl
+  pace-back (Rated samples rate) k f h = rw (h .0, u32-back (h .1 .0) (f .0), u8-back (second k samples (h .1 .1 .0)) (f .1)) refl
+
+  pace-fits : (p : Pace) (k : ℕ) → PaceFits p → Held s k (paceWords p) → paceFits s k ≡ true
+  unfolding paceFits
+  pace-fits (Period p) k f h = rw (h .0) (u32-fits (h .1 .0) f)
+  pace-fits (Rated samples rate) k f h = rw (h .0) (both (u32-fits (h .1 .0) (f .0)) (u8-fits (second k samples (h .1 .1 .0)) (f .1)))
+
+  pace-same : (k : ℕ) → paceFits s k ≡ true → Held s k (paceWords (paceAt s k))
+  unfolding paceFits paceAt
+  pace-same k e = go (eqb (wordAt s k) 1) refl e
+    where
+      go : (b : Bool) → eqb (wordAt s k) 1 ≡ b → cond b (fitsU32 (wordAt s (k + 1)) && fitsU8 (wordAt s (k + 2))) (eqb (wordAt s k) 0 && fitsU32 (wordAt s (k + 1))) ≡ true → Held s k (paceWords (cond b (Rated (u8Of (wordAt s (k + 2))) (u32Of (wordAt s (k + 1)))) (Period (u32Of (wordAt s (k + 1))))))
+      go true z f =
+          let p = and-true (fitsU32 (wordAt s (k + 1))) (fitsU8 (wordAt s (k + 2))) f in
+          (eqb-true (wordAt s k) 1 z, (u32-same (wordAt s (k + 1)) (p .0), (to-second k _ (u8-same (wordAt s (k + 2)) (p .1)), tt)))
+      go false z f =
+          let p = and-true (eqb (wordAt s k) 0) (fitsU32 (wordAt s (k + 1))) f in
+          (eqb-true (wordAt s k) 0 (p .0), (u32-same (wordAt s (k + 1)) (p .1), tt))
+
+  pace-small : (k : ℕ) → PaceFits (paceAt s k)
+  unfolding paceAt
+  pace-small k = go (eqb (wordAt s k) 1)
+    where
+      go : (c : Bool) → PaceFits (cond c (Rated (u8Of (wordAt s (k + 2))) (u32Of (wordAt s (k + 1)))) (Period (u32Of (wordAt s (k + 1)))))
+      go true = (u32-small (wordAt s (k + 1)), u8-small (wordAt s (k + 2)))
+      go false = u32-small (wordAt s (k + 1))
 
   -- a row
   pub row-words : (r : Row) → RowFits r → Every Word (rowWords r)
-  row-words r f = (class-word (r .class), (omega (arith, f .payload), (omega (arith, f .period), (omega (arith, f .deadline), tt))))
+  row-words r f = (class-word (r .class), (omega (arith, f .payload), (omega (arith, f .deadline), pace-words (r .pace) (f .pace))))
     where
       class-word : (c : Class) → Word (classWord c)
       class-word A = omega arith
@@ -118,25 +167,25 @@ module _ (s : List ℕ) where
       rw (
         class-back (r .class) (h .0),
         u16-back (h .1 .0) (f .payload),
-        u32-back (second k (r .period) (h .1 .1 .0)) (f .period),
-        u32-back (third k (r .deadline) (h .1 .1 .1 .0)) (f .deadline),
+        u32-back (second k (r .deadline) (h .1 .1 .0)) (f .deadline),
+        pace-back (r .pace) (k + 3) (f .pace) (from-third k (paceWords (r .pace)) (h .1 .1 .1)),
       )
       refl
 
   pub row-fits : (r : Row) (k : ℕ) → RowFits r → Held s k (rowWords r) → rowFits s k ≡ true
   row-fits r k f h =
       both (both (class-fits (r .class) (h .0)) (u16-fits (h .1 .0) (f .payload)))
-      (both (u32-fits (second k (r .period) (h .1 .1 .0)) (f .period)) (u32-fits (third k (r .deadline) (h .1 .1 .1 .0)) (f .deadline)))
+      (both (u32-fits (second k (r .deadline) (h .1 .1 .0)) (f .deadline)) (pace-fits (r .pace) (k + 3) (f .pace) (from-third k (paceWords (r .pace)) (h .1 .1 .1))))
 
   pub row-same : (k : ℕ) → rowFits s k ≡ true → Held s k (rowWords (rowAt s k))
   row-same k e =
       let p = and-true (fitsMark (wordAt s k) && fitsU16 (wordAt s (k + 1))) _ e in
       let q = and-true (fitsMark (wordAt s k)) (fitsU16 (wordAt s (k + 1))) (p .0) in
-      let r = and-true (fitsU32 (wordAt s (k + 2))) (fitsU32 (wordAt s (k + 3))) (p .1) in
-      (class-same (wordAt s k) (q .0), (u16-same (wordAt s (k + 1)) (q .1), (to-second k _ (u32-same (wordAt s (k + 2)) (r .0)), (to-third k _ (u32-same (wordAt s (k + 3)) (r .1)), tt))))
+      let r = and-true (fitsU32 (wordAt s (k + 2))) (paceFits s (k + 3)) (p .1) in
+      (class-same (wordAt s k) (q .0), (u16-same (wordAt s (k + 1)) (q .1), (to-second k _ (u32-same (wordAt s (k + 2)) (r .0)), to-third k (paceWords (paceAt s (k + 3))) (pace-same (k + 3) (r .1)))))
 
   pub row-small : (k : ℕ) → RowFits (rowAt s k)
-  row-small k = record { payload = u16-small (wordAt s (k + 1)); period = u32-small (wordAt s (k + 2)); deadline = u32-small (wordAt s (k + 3)) }
+  row-small k = record { payload = u16-small (wordAt s (k + 1)); pace = pace-small (k + 3); deadline = u32-small (wordAt s (k + 2)) }
 
   -- a frame
   pub frame-words : (x : Frame) → FrameFits x → Every Word (frameWords x)

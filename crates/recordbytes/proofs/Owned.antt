@@ -11,6 +11,8 @@ use denote.Struct.Declared as struct
 use denote.Enum.Declared as enum
 use denote.Array.{each}
 use Prim.Native.Nat.{ℕ, _-_}
+use Rattle.table.specs.declared.Pace.{Pace}
+use Rattle.table.specs.declared.Pace.the-variants.{Period, Rated}
 use Rattle.table.specs.declared.Row.{Row}
 use Rattle.table.specs.Rows.{noRow, rowsOf}
 use Rattle.machine.specs.declared.Frame.{Frame}
@@ -19,17 +21,22 @@ use Rattle.machine.specs.declared.Wire.the-variants.{Free, Sending}
 use Rattle.machine.specs.declared.Last.{Last}
 use Rattle.machine.specs.declared.Port.{Port}
 use Rattle.machine.specs.State.{never, at, noFrame, waiting, instantOf, instantsOf, view}
+use Rattle.table.proofs.Pace as pace
 use Rattle.table.proofs.Row as row
 use Rattle.machine.proofs.Frame as frame
 use Rattle.machine.proofs.Wire as wire
 use Rattle.machine.proofs.Last as last
 use Rattle.machine.proofs.Port as port
 use Rattle.words.specs.Words.{Every, Word}
-use Rattle.recordbytes.specs.Fits.{RowFits, FrameFits, InstantFits, WireFits, Numbered}
+use Rattle.recordbytes.specs.Fits.{PaceFits, RowFits, FrameFits, InstantFits, WireFits, Numbered}
 use Rattle.recordbytes.proofs.Lists.{every-append, every-take, every-same, every-map}
 
+pace-owned : (p : Pace) (vs : List Val) → Is (enum.row pace.the-type) p vs → PaceFits p
+pace-owned (Period p) vs e = e .1 .1 .1 .1 .0 .1
+pace-owned (Rated samples rate) vs e = (e .1 .1 .1 .1 .1 .0 .1, e .1 .1 .1 .1 .0 .1)
+
 row-owned : (r : Row) (vs : List Val) → Is (struct.row row.the-type) r vs → RowFits r
-row-owned r vs e = record { payload = e .1 .1 .1 .0 .1; period = e .1 .1 .1 .1 .0 .1; deadline = e .1 .1 .1 .1 .1 .0 .1 }
+row-owned r vs e = record { payload = e .1 .1 .1 .0 .1; pace = pace-owned (r .pace) _ (e .1 .1 .1 .1 .0); deadline = e .1 .1 .1 .1 .1 .0 .1 }
 
 frame-owned : (x : Frame) (vs : List Val) → Is (struct.row frame.the-type) x vs → FrameFits x
 frame-owned x vs e = record { source = e .1 .1 .0 .1; size = e .1 .1 .1 .0 .1; taken = e .1 .1 .1 .1 .0 .1 }
@@ -73,7 +80,7 @@ owned-numbered p vs e =
     let rows = every-owned _ _ RowFits row-owned (p .table .rows) _ (t .1 .1 .0 .1 .1) in
     record {
       header = record { idlea = t .0 .1 .1 .0 .1; idleb = t .0 .1 .1 .1 .0 .1; payload = t .0 .1 .1 .1 .1 .0 .1 };
-      rows = every-append RowFits (take (p .table .count) (p .table .rows)) _ (every-take RowFits (p .table .count) (p .table .rows) rows) (every-same RowFits (p .table .count - length (p .table .rows)) noRow (record { payload = omega arith; period = omega arith; deadline = omega arith }));
+      rows = every-append RowFits (take (p .table .count) (p .table .rows)) _ (every-take RowFits (p .table .count) (p .table .rows) rows) (every-same RowFits (p .table .count - length (p .table .rows)) noRow (record { payload = omega arith; pace = omega arith; deadline = omega arith }));
       clock = r .0 .1;
       credita = r .1 .0 .1;
       creditb = r .1 .1 .0 .1;

@@ -8,6 +8,9 @@ use lib.Dec.{leb, eqb}
 use lib.ListN.{length, take}
 use lib.Seq.{take-all}
 use borrow.Author.Tests.{le-leb}
+use Rattle.table.specs.declared.Pace.{Pace}
+use Rattle.table.specs.declared.Pace.the-variants.{Period, Rated}
+use Rattle.table.specs.declared.Row.{Row}
 use Rattle.table.specs.Limits.{mostRows}
 use Rattle.table.proofs.Laws.{and-true}
 use Rattle.machine.specs.declared.Frame.{Frame}
@@ -17,8 +20,8 @@ use Rattle.machine.specs.Limits.{classPlaces, bestPlaces}
 use Rattle.machine.specs.State.{Instant, never, at, State, Placed}
 use Rattle.words.specs.Words.{Every, Word, Bytes, wordAt, stored, spread}
 use Rattle.words.proofs.Laws.{stored-length, Held, held-stored, held-same, word-small, Agree, agree-more, stored-agrees, held-agrees, spread-length, spread-agrees, HeldEach, each-agrees, spread-held, each-same, gathered-back, gathered-length, gathered-every}
-use Rattle.recordbytes.specs.Layout.{version, headStart, rowsStart, clockStart, queueaStart, queuebStart, bestStart, lastStart, wireStart, idleaPlace, idlebPlace, payloadPlace, countPlace, rowWidth, frameWidth, lastWidth, wireWidth, recordSize}
-use Rattle.recordbytes.specs.Record.{headWords, rowWords, numberWords, frameWords, lastWords, wireWords, tableOver, queueOver, recordOver, rowAt, frameAt, instantAt, queueAt, stateOf, headFits, rowFits, frameFits, lastFits, each, queueFits, recordTests, isRecord}
+use Rattle.recordbytes.specs.Layout.{version, headStart, rowsStart, clockStart, queueaStart, queuebStart, bestStart, lastStart, wireStart, idleaPlace, idlebPlace, payloadPlace, countPlace, paceWidth, rowWidth, frameWidth, lastWidth, wireWidth, recordSize}
+use Rattle.recordbytes.specs.Record.{headWords, paceWords, rowWords, numberWords, frameWords, lastWords, wireWords, tableOver, queueOver, recordOver, rowAt, frameAt, instantAt, queueAt, stateOf, headFits, rowFits, frameFits, lastFits, each, queueFits, recordTests, isRecord}
 use Rattle.recordbytes.specs.Fits.{RowFits, FrameFits, InstantFits, Numbered, Fits}
 use Rattle.recordbytes.proofs.Lists.{true-each, both, held-each, each-held}
 use Rattle.recordbytes.proofs.Tested.{tests, head}
@@ -40,6 +43,13 @@ pub record Stands (p : State) (s : List ℕ) : Type 0 where
   pub wire : Held s wireStart (wireWords (p .wire))
 
 -- how many words they are
+pace-wide : (p : Pace) → length (paceWords p) ≤ paceWidth
+pace-wide (Period p) = omega arith
+pace-wide (Rated samples rate) = omega arith
+
+pub row-wide : (r : Row) → length (rowWords r) ≤ rowWidth
+row-wide r = omega (arith, pace-wide (r .pace))
+
 pub last-wide : (i : Instant) → length (lastWords i) ≤ lastWidth
 last-wide never = omega arith
 last-wide (at k) = omega arith
@@ -161,7 +171,7 @@ module _ (p : State) (s : List ℕ) (fits : Fits p) (room : recordSize ≤ lengt
 
   rows-stand : HeldEach rowWords rowWidth b2 rowsStart (p .table .rows)
   rows-stand =
-      rw rows-all (spread-held rowWords rowWidth (λ x. omega arith) RowFits (field.row-words b1) rowsStart (p .table .rows) b1 (fits .numbered .rows) (omega (arith, l1, fits .placed .rows)))
+      rw rows-all (spread-held rowWords rowWidth row-wide RowFits (field.row-words b1) rowsStart (p .table .rows) b1 (fits .numbered .rows) (omega (arith, l1, fits .placed .rows)))
 
   last-stand : HeldEach lastWords lastWidth b7 lastStart (p .last)
   last-stand =
@@ -173,7 +183,7 @@ module _ (p : State) (s : List ℕ) (fits : Fits p) (room : recordSize ≤ lengt
   written-stands =
       record {
         head = held-agrees rowsStart b1 b8 headStart (headWords (p .table)) (omega arith) a1 (held-stored s headStart (headWords (p .table)) head-words (omega arith));
-        rows = each-agrees rowWords rowWidth (λ x. omega arith) clockStart b2 b8 rowsStart (p .table .rows) (omega (arith, fits .placed .rows)) a2 rows-stand;
+        rows = each-agrees rowWords rowWidth row-wide clockStart b2 b8 rowsStart (p .table .rows) (omega (arith, fits .placed .rows)) a2 rows-stand;
         numbers = held-agrees queueaStart b3 b8 clockStart (numberWords p) (omega arith) a3 (held-stored b2 clockStart (numberWords p) number-words (omega (arith, l2)));
         a = queue-later queuebStart b4 b8 (p .a) queueaStart (omega (arith, fits .placed .a)) a4 (queue-stands (p .a) classPlaces (fits .placed .a) b3 queueaStart (fits .numbered .a) (omega (arith, fits .placed .a)) (omega (arith, l3, fits .placed .a)));
         b = queue-later bestStart b5 b8 (p .b) queuebStart (omega (arith, fits .placed .b)) a5 (queue-stands (p .b) classPlaces (fits .placed .b) b4 queuebStart (fits .numbered .b) (omega (arith, fits .placed .b)) (omega (arith, l4, fits .placed .b)));
@@ -269,7 +279,7 @@ module _ (s : List ℕ) (b : Bytes s) where
       rw (
         held-same s b headStart (headWords (p .table)) (omega arith) (st .head),
         take-all mostRows (p .table .rows) (few .rows),
-        each-same rowWords rowWidth (λ x. omega arith) s b rowsStart (p .table .rows) (omega (arith, few .rows)) (st .rows),
+        each-same rowWords rowWidth row-wide s b rowsStart (p .table .rows) (omega (arith, few .rows)) (st .rows),
         held-same s b clockStart (numberWords p) (omega arith) (st .numbers),
         queue-again (p .a) queueaStart classPlaces (few .a) (omega (arith, few .a)) (st .a),
         queue-again (p .b) queuebStart classPlaces (few .b) (omega (arith, few .b)) (st .b),

@@ -13,7 +13,7 @@ use Rattle.words.proofs.Laws.{stored-length, spread-length, stored-behind, spre
 use Rattle.recordbytes.specs.Layout.{headStart, rowsStart, clockStart, queueaStart, queuebStart, bestStart, lastStart, wireStart, rowWidth, frameWidth, lastWidth, recordSize}
 use Rattle.recordbytes.specs.Record.{headWords, rowWords, numberWords, frameWords, lastWords, wireWords, tableOver, queueOver, recordOver}
 use Rattle.recordbytes.specs.RoundTrip.{ReadingWritten, WritingRead, ReadFits, BehindKept, SameParts}
-use Rattle.recordbytes.proofs.Stands.{last-wide, wire-wide, queue-length, written-stands, stands-read, stands-record, stands-again, named-stands, named-numbered}
+use Rattle.recordbytes.proofs.Stands.{row-wide, last-wide, wire-wide, queue-length, written-stands, stands-read, stands-record, stands-again, named-stands, named-numbered}
 use Rattle.recordbytes.proofs.Tested.{long, named-placed}
 use Rattle.recordbytes.proofs.Placing.{view-from}
 
@@ -47,7 +47,7 @@ record-behind p s i h =
       queue-behind queuebStart classPlaces (p .b) _ i (omega arith),
       queue-behind queueaStart classPlaces (p .a) _ i (omega arith),
       stored-behind _ clockStart (numberWords p) i (omega arith),
-      spread-behind rowWords rowWidth (λ x. omega arith) rowsStart (take mostRows (p .table .rows)) _ i (omega (arith, length-take mostRows (p .table .rows))),
+      spread-behind rowWords rowWidth row-wide rowsStart (take mostRows (p .table .rows)) _ i (omega (arith, length-take mostRows (p .table .rows))),
     )
     (stored-behind s headStart (headWords (p .table)) i (omega arith))
 

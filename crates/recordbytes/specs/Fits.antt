@@ -1,6 +1,8 @@
 -- The ports that a record can hold: their parts find their places, and every number fits its field.
 use Prim.Native.Nat.{_<_, _^_}
 use lib.Signed.{mag}
+use Rattle.table.specs.declared.Pace.{Pace}
+use Rattle.table.specs.declared.Pace.the-variants.{Period, Rated}
 use Rattle.table.specs.declared.Row.{Row}
 use Rattle.table.specs.declared.Header.{Header}
 use Rattle.machine.specs.declared.Frame.{Frame}
@@ -14,9 +16,13 @@ pub record HeaderFits (h : Header) : Type 0 where
   pub idleb : h .idleb < 2 ^ 32
   pub payload : h .payload < 2 ^ 16
 
+abbrev pub PaceFits : Pace → Type 0
+PaceFits (Period p) = p < 2 ^ 32
+PaceFits (Rated samples rate) = (rate < 2 ^ 32) × (samples < 2 ^ 8)
+
 pub record RowFits (r : Row) : Type 0 where
   pub payload : r .payload < 2 ^ 16
-  pub period : r .period < 2 ^ 32
+  pub pace : PaceFits (r .pace)
   pub deadline : r .deadline < 2 ^ 32
 
 pub record FrameFits (f : Frame) : Type 0 where

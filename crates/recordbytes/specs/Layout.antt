@@ -1,27 +1,30 @@
--- Where the parts of a port record stand: 448 words, each at its place.
+-- Where the parts of a port record stand: 512 words, each at its place.
 --   0            the layout's version
 --   1 to 4       idle slope of A, of B, best-effort payload, row count
---   5 to 132     32 rows: class (0 A, 1 B), payload, period, deadline
---   133 to 135   clock, credit of A, of B (two's complement)
---   136 to 232   queue of A: count, 32 frames: source, size, instant taken
---   233 to 329   queue of B
---   330 to 378   best-effort queue: count, 16 frames
---   379 to 442   32 last instants: mark (1 if there is one, else 0), instant
---   443 to 447   wire: 0 when free; 1, the frame and its bytes left
+--   5 to 196     32 rows: class (0 A, 1 B), payload, deadline, pace: 0 and the period; or 1, the rate and the samples
+--   197 to 199   clock, credit of A, of B (two's complement)
+--   200 to 296   queue of A: count, 32 frames: source, size, instant taken
+--   297 to 393   queue of B
+--   394 to 442   best-effort queue: count, 16 frames
+--   443 to 506   32 last instants: mark (1 if there is one, else 0), instant
+--   507 to 511   wire: 0 when free; 1, the frame and its bytes left
 use Prim.Native.Nat.{ℕ, _+_, _*_}
 use Rattle.table.specs.Limits.{mostRows}
 use Rattle.machine.specs.Limits.{classPlaces, bestPlaces}
 
--- The version is above every idle slope, with which records began before they had one.
+-- The version, one for each layout: above every idle slope, with which records began before they had one.
 abbrev pub version : ℕ
-version = 1000001
+version = 1000002
 
--- The words of the header, a row, the clock with the credits, a frame, an instant and the wire. A queue has a count before its frames.
+-- The words of the header, a pace, a row, the clock with the credits, a frame, an instant and the wire. A queue has a count before its frames.
 abbrev pub headWidth : ℕ
 headWidth = 5
 
+abbrev pub paceWidth : ℕ
+paceWidth = 3
+
 abbrev pub rowWidth : ℕ
-rowWidth = 4
+rowWidth = 3 + paceWidth
 
 abbrev pub numbersWidth : ℕ
 numbersWidth = 3

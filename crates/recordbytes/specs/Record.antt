@@ -8,6 +8,8 @@ use lib.IntN.{ℤ, pos, negsuc}
 use lib.ListN.{length, take}
 use Rattle.table.specs.declared.Class.{Class}
 use Rattle.table.specs.declared.Class.the-variants.{A, B}
+use Rattle.table.specs.declared.Pace.{Pace}
+use Rattle.table.specs.declared.Pace.the-variants.{Period, Rated}
 use Rattle.table.specs.declared.Row.{Row}
 use Rattle.table.specs.Limits.{mostRows}
 use Rattle.table.specs.Rows.{Contents}
@@ -28,8 +30,13 @@ abbrev pub classWord : Class → ℕ
 classWord A = 0
 classWord B = 1
 
+-- Of a pace that states a period, only its mark and the period.
+abbrev pub paceWords : Pace → List ℕ
+paceWords (Period p) = 0 ∷ p ∷ []
+paceWords (Rated samples rate) = 1 ∷ rate ∷ samples ∷ []
+
 abbrev pub rowWords : Row → List ℕ
-rowWords r = classWord (r .class) ∷ r .payload ∷ r .period ∷ r .deadline ∷ []
+rowWords r = classWord (r .class) ∷ r .payload ∷ r .deadline ∷ paceWords (r .pace)
 
 -- Two's complement: −(n + 1) is 2 ^ 64 − 1 − n.
 abbrev pub signedWord : ℤ → ℕ
@@ -69,6 +76,9 @@ recordOver p s =
     stored lasts wireStart (wireWords (p .wire))
 
 -- ---- the port that words name: of a word that is larger than its field, what the field can hold
+abbrev pub u8Of : ℕ → ℕ
+u8Of w = w % 256
+
 abbrev pub u16Of : ℕ → ℕ
 u16Of w = w % 65536
 
@@ -81,8 +91,11 @@ classOf w = cond (eqb w 0) A B
 abbrev pub signedOf : ℕ → ℤ
 signedOf w = cond (leb w 9223372036854775807) (pos w) (negsuc (18446744073709551615 - w))
 
+unfoldable pub paceAt : List ℕ → ℕ → Pace
+paceAt s k = cond (eqb (wordAt s k) 1) (Rated (u8Of (wordAt s (k + 2))) (u32Of (wordAt s (k + 1)))) (Period (u32Of (wordAt s (k + 1))))
+
 abbrev pub rowAt : List ℕ → ℕ → Row
-rowAt s k = record { class = classOf (wordAt s k); payload = u16Of (wordAt s (k + 1)); period = u32Of (wordAt s (k + 2)); deadline = u32Of (wordAt s (k + 3)) }
+rowAt s k = record { class = classOf (wordAt s k); payload = u16Of (wordAt s (k + 1)); pace = paceAt s (k + 3); deadline = u32Of (wordAt s (k + 2)) }
 
 abbrev pub frameAt : List ℕ → ℕ → Frame
 frameAt s k = record { source = u32Of (wordAt s k); size = u32Of (wordAt s (k + 1)); taken = wordAt s (k + 2) }
@@ -116,6 +129,9 @@ stateOf s =
 
 -- ---- whether bytes are a record: there are enough of them, they are of this version, counts are within the places, and each word of a part fits its field. A clock,
 -- a credit and an instant take any word.
+abbrev pub fitsU8 : ℕ → Bool
+fitsU8 w = leb w 255
+
 abbrev pub fitsU16 : ℕ → Bool
 fitsU16 w = leb w 65535
 
@@ -129,8 +145,11 @@ fitsMark w = leb w 1
 unfoldable pub headFits : List ℕ → Bool
 headFits s = (eqb (wordAt s headStart) version && leb (wordAt s countPlace) mostRows) && ((fitsU32 (wordAt s idleaPlace) && fitsU32 (wordAt s idlebPlace)) && fitsU16 (wordAt s payloadPlace))
 
+unfoldable pub paceFits : List ℕ → ℕ → Bool
+paceFits s k = cond (eqb (wordAt s k) 1) (fitsU32 (wordAt s (k + 1)) && fitsU8 (wordAt s (k + 2))) (eqb (wordAt s k) 0 && fitsU32 (wordAt s (k + 1)))
+
 abbrev pub rowFits : List ℕ → ℕ → Bool
-rowFits s k = (fitsMark (wordAt s k) && fitsU16 (wordAt s (k + 1))) && (fitsU32 (wordAt s (k + 2)) && fitsU32 (wordAt s (k + 3)))
+rowFits s k = (fitsMark (wordAt s k) && fitsU16 (wordAt s (k + 1))) && (fitsU32 (wordAt s (k + 2)) && paceFits s (k + 3))
 
 abbrev pub frameFits : List ℕ → ℕ → Bool
 frameFits s k = fitsU32 (wordAt s k) && fitsU32 (wordAt s (k + 1))

@@ -1,12 +1,14 @@
 // A port record as bytes: where its words stand, and what bytes are read as. specs/Layout.antt has the same numbers.
 
 // The version of the layout.
-pub const VERSION: u64 = 1_000_001;
+pub const VERSION: u64 = 1_000_002;
 
-// The words of the header, a row, the clock with the credits, a frame, an instant and the wire. A queue has a count before its frames.
+// The words of the header, a pace, a row, the clock with the credits, a frame, an instant and the wire. A queue has a count before its frames.
 pub const HEAD_WIDTH: usize = 5;
 
-pub const ROW_WIDTH: usize = 4;
+pub const PACE_WIDTH: usize = 3;
+
+pub const ROW_WIDTH: usize = 3 + PACE_WIDTH;
 
 pub const NUMBERS_WIDTH: usize = 3;
 

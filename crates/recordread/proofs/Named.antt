@@ -7,6 +7,7 @@ use native.Mathlib.Omega.{arith}
 use lib.IntN.{ℤ, pos}
 use lib.ListN.{length, set, replicate}
 use borrow.Author.Tests.{eq-eqb, ne-eqb}
+use Rattle.table.specs.declared.Pace.the-variants.{Period, Rated}
 use Rattle.table.specs.declared.Row.{Row}
 use Rattle.table.specs.declared.Table.{Table}
 use Rattle.table.specs.Limits.{mostRows}
@@ -23,11 +24,19 @@ use Rattle.words.specs.Words.{wordAt, gathered}
 use Rattle.words.proofs.Laws.{gathered-length, gathered-none, gathered-next, gathered-map}
 use Rattle.recordbytes.specs.declared.Reading.{Reading}
 use Rattle.recordbytes.specs.Layout.{rowsStart, clockStart, queueaStart, queuebStart, bestStart, lastStart, wireStart, idleaPlace, idlebPlace, payloadPlace, countPlace, rowWidth, frameWidth, lastWidth}
-use Rattle.recordbytes.specs.Record.{u16Of, u32Of, signedOf, rowAt, frameAt, instantAt, queueAt, wireAt, stateOf, isRecord}
+use Rattle.recordbytes.specs.Record.{u8Of, u16Of, u32Of, signedOf, paceAt, rowAt, frameAt, instantAt, queueAt, wireAt, stateOf, isRecord}
 use Rattle.recordbytes.specs.Port.{tableFrom, portFrom, nothing, readRecord}
 use Rattle.recordbytes.proofs.Laws.{placed-none, placed-next}
 
 module _ (s : List ℕ) (k : ℕ) where
+  pub rated-named : wordAt s k ≡ 1 → Rated (u8Of (wordAt s (k + 2))) (u32Of (wordAt s (k + 1))) ≡ paceAt s k
+  unfolding paceAt
+  rated-named e = rw (eq-eqb (wordAt s k) 1 e) refl
+
+  pub period-named : (wordAt s k ≡ 1 → ⊥) → Period (u32Of (wordAt s (k + 1))) ≡ paceAt s k
+  unfolding paceAt
+  period-named h = rw (ne-eqb (wordAt s k) 1 h) refl
+
   pub last-known : {w : ℕ} → wordAt s k ≡ 1 → w ≡ wordAt s (k + 1) → _≡_ {A = Last} (record { known = true; taken = w }) (lastOf (instantAt s k))
   last-known e f = rw (eq-eqb (wordAt s k) 1 e, f) refl
 

@@ -9,9 +9,17 @@ use borrow.Author.Tests.{eq-eqb, ne-eqb, le-leb, lt-leb}
 use Rattle.machine.specs.Limits.{classPlaces, bestPlaces}
 use Rattle.words.specs.Words.{wordAt}
 use Rattle.recordbytes.specs.Layout.{countPlace, rowsStart, queueaStart, queuebStart, bestStart, lastStart, wireStart, rowWidth, frameWidth, lastWidth, recordSize}
-use Rattle.recordbytes.specs.Record.{fitsU32, headFits, rowFits, frameFits, lastFits, wireFits, each, queueFits, isRecord}
+use Rattle.recordbytes.specs.Record.{fitsU8, fitsU32, headFits, paceFits, rowFits, frameFits, lastFits, wireFits, each, queueFits, isRecord}
 
 module _ (s : List ℕ) (k : ℕ) where
+  pub pace-rated : wordAt s k ≡ 1 → fitsU32 (wordAt s (k + 1)) && fitsU8 (wordAt s (k + 2)) ≡ paceFits s k
+  unfolding paceFits
+  pace-rated e = rw (eq-eqb (wordAt s k) 1 e) refl
+
+  pub pace-else : (wordAt s k ≡ 1 → ⊥) → eqb (wordAt s k) 0 && fitsU32 (wordAt s (k + 1)) ≡ paceFits s k
+  unfolding paceFits
+  pace-else h = rw (ne-eqb (wordAt s k) 1 h) refl
+
   pub wire-sending : wordAt s k ≡ 1 → frameFits s (k + 1) && fitsU32 (wordAt s (k + 1 + frameWidth)) ≡ wireFits s k
   unfolding wireFits
   wire-sending e = rw (eq-eqb (wordAt s k) 1 e) refl

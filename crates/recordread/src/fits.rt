@@ -2,8 +2,8 @@
 ghost use mathlib.Core.Path.{_≡_};
 ghost use Prim.Native.Nat.{_+_, _*_, _≤_};
 ghost use Rattle.table.specs.Limits.{mostRows};
-ghost use Rattle.recordbytes.specs.Layout.{rowsStart, lastStart, wireStart, rowWidth, frameWidth, lastWidth, recordWidth};
-ghost use Rattle.recordbytes.specs.Record.{headFits, rowFits, frameFits, lastFits, wireFits, each, queueFits, isRecord};
+ghost use Rattle.recordbytes.specs.Layout.{rowsStart, lastStart, wireStart, paceWidth, rowWidth, frameWidth, lastWidth, recordWidth};
+ghost use Rattle.recordbytes.specs.Record.{headFits, paceFits, rowFits, frameFits, lastFits, wireFits, each, queueFits, isRecord};
 use machine::BEST_PLACES;
 use machine::CLASS_PLACES;
 use recordbytes::BEST_START;
@@ -25,7 +25,9 @@ use recordbytes::WIRE_START;
 use table::ROWS;
 use words::words::word;
 
-// The largest numbers of 16 and of 32 bits.
+// The largest numbers of 8, of 16 and of 32 bits.
+const U8: u64 = 255;
+
 const U16: u64 = 65_535;
 
 const U32: u64 = 4_294_967_295;
@@ -38,12 +40,25 @@ fn head_fits(s: &[u8]) -> bool
     known & (slopes & (word(s, PAYLOAD_PLACE) <= U16))
 }
 
+// Behind the mark stands a period or a rate.
+fn pace_fits(s: &[u8], k: usize) -> bool
+    requires { ⌜ k + paceWidth ≤ recordWidth ⌝ }
+    ensures { λ r. ⌜ r ≡ paceFits (now (s .entry)) k ⌝ }
+{
+    let mark = word(s, k);
+    let value = word(s, k + 1) <= U32;
+    if mark == 1 {
+        return value & (word(s, k + 2) <= U8);
+    }
+    (mark == 0) & value
+}
+
 fn row_fits(s: &[u8], k: usize) -> bool
     requires { ⌜ k + rowWidth ≤ recordWidth ⌝ }
     ensures { λ r. ⌜ r ≡ rowFits (now (s .entry)) k ⌝ }
 {
     let class = (word(s, k) <= 1) & (word(s, k + 1) <= U16);
-    class & ((word(s, k + 2) <= U32) & (word(s, k + 3) <= U32))
+    class & ((word(s, k + 2) <= U32) & pace_fits(s, k + 3))
 }
 
 fn frame_fits(s: &[u8], k: usize) -> bool

@@ -9,8 +9,8 @@ ghost use Rattle.table.specs.Rows.{noRow};
 ghost use Rattle.machine.specs.Limits.{classPlaces, bestPlaces};
 ghost use Rattle.machine.specs.State.{zeroFrame, zeroLast, placed, lastOf};
 ghost use Rattle.words.specs.Words.{wordAt, gathered};
-ghost use Rattle.recordbytes.specs.Layout.{rowsStart, lastStart, wireStart, countPlace, rowWidth, frameWidth, lastWidth, recordWidth};
-ghost use Rattle.recordbytes.specs.Record.{u16Of, u32Of, classOf, signedOf, rowAt, frameAt, instantAt, queueAt, wireAt, stateOf, isRecord};
+ghost use Rattle.recordbytes.specs.Layout.{rowsStart, lastStart, wireStart, countPlace, paceWidth, rowWidth, frameWidth, lastWidth, recordWidth};
+ghost use Rattle.recordbytes.specs.Record.{u8Of, u16Of, u32Of, classOf, signedOf, paceAt, rowAt, frameAt, instantAt, queueAt, wireAt, stateOf, isRecord};
 ghost use Rattle.recordbytes.specs.Port.{tableFrom, portFrom, nothing, readRecord};
 use crate::fits::is_record;
 use machine::BEST_PLACES;
@@ -38,21 +38,30 @@ use recordbytes::Reading;
 use recordbytes::WIRE_START;
 use table::Class;
 use table::Header;
+use table::Pace;
 use table::ROWS;
 use table::Row;
 use table::Table;
+use table::rows::no_row;
 use words::words::word;
 
-fn u16_of(w: u64) -> u16
-    ensures { λ r. ⌜ r ≡ u16Of w ⌝ }
+// Of the word of number k, what a field of 8, of 16 or of 32 bits can hold.
+fn u8_at(s: &[u8], k: usize) -> u8
+    ensures { λ r. ⌜ r ≡ u8Of (wordAt (now (s .entry)) k) ⌝ }
 {
-    (w % 65_536) as u16
+    (word(s, k) % 256) as u8
 }
 
-fn u32_of(w: u64) -> u32
-    ensures { λ r. ⌜ r ≡ u32Of w ⌝ }
+fn u16_at(s: &[u8], k: usize) -> u16
+    ensures { λ r. ⌜ r ≡ u16Of (wordAt (now (s .entry)) k) ⌝ }
 {
-    (w % 4_294_967_296) as u32
+    (word(s, k) % 65_536) as u16
+}
+
+fn u32_at(s: &[u8], k: usize) -> u32
+    ensures { λ r. ⌜ r ≡ u32Of (wordAt (now (s .entry)) k) ⌝ }
+{
+    (word(s, k) % 4_294_967_296) as u32
 }
 
 fn class_of(w: u64) -> Class
@@ -74,16 +83,30 @@ fn signed_of(w: u64) -> i64
     -1 - (18_446_744_073_709_551_615 - w) as i64
 }
 
+// Behind the mark stands a period or a rate.
+fn pace_at(s: &[u8], k: usize) -> Pace
+    requires { ⌜ k + paceWidth ≤ recordWidth ⌝ }
+    ensures { λ r. ⌜ r ≡ paceAt (now (s .entry)) k ⌝ }
+{
+    let value = u32_at(s, k + 1);
+    if word(s, k) == 1 {
+        let samples = u8_at(s, k + 2);
+        return Pace::Rated(samples, value);
+    }
+    Pace::Period(value)
+}
+
 fn row_at(s: &[u8], k: usize) -> Row
     requires { ⌜ k + rowWidth ≤ recordWidth ⌝ }
     ensures { λ r. ⌜ r ≡ rowAt (now (s .entry)) k ⌝ }
 {
     let class = class_of(word(s, k));
+    let pace = pace_at(s, k + 3);
     Row {
         class,
-        payload: u16_of(word(s, k + 1)),
-        period: u32_of(word(s, k + 2)),
-        deadline: u32_of(word(s, k + 3)),
+        payload: u16_at(s, k + 1),
+        pace,
+        deadline: u32_at(s, k + 2),
     }
 }
 
@@ -92,8 +115,8 @@ fn frame_at(s: &[u8], k: usize) -> Frame
     ensures { λ r. ⌜ r ≡ frameAt (now (s .entry)) k ⌝ }
 {
     Frame {
-        source: u32_of(word(s, k)),
-        size: u32_of(word(s, k + 1)),
+        source: u32_at(s, k),
+        size: u32_at(s, k + 1),
         taken: word(s, k + 2),
     }
 }
@@ -113,17 +136,6 @@ fn last_at(s: &[u8], k: usize) -> Last
 }
 
 // What a place holds that belongs to no part.
-fn zero_row() -> Row
-    ensures { λ r. ⌜ r ≡ noRow ⌝ }
-{
-    Row {
-        class: Class::A,
-        payload: 0,
-        period: 0,
-        deadline: 0,
-    }
-}
-
 fn zero_frame() -> Frame
     ensures { λ r. ⌜ r ≡ zeroFrame ⌝ }
 {
@@ -148,7 +160,7 @@ fn rows_at(s: &[u8], n: usize) -> [Row; ROWS]
     requires { ⌜ n ≤ mostRows ⌝ }
     ensures { λ r. ⌜ r ≡ placed mostRows noRow (gathered (rowAt (now (s .entry))) rowWidth rowsStart n) ⌝ }
 {
-    let mut rows = [zero_row(); ROWS];
+    let mut rows = [no_row(); ROWS];
     let mut i: usize = 0;
     while i < n {
         rows[i] = row_at(s, ROWS_START + ROW_WIDTH * i);
@@ -164,9 +176,9 @@ fn table_at(s: &[u8]) -> Table
     let count = word(s, COUNT_PLACE) as usize;
     let rows = rows_at(s, count);
     let header = Header {
-        idlea: u32_of(word(s, IDLEA_PLACE)),
-        idleb: u32_of(word(s, IDLEB_PLACE)),
-        payload: u16_of(word(s, PAYLOAD_PLACE)),
+        idlea: u32_at(s, IDLEA_PLACE),
+        idleb: u32_at(s, IDLEB_PLACE),
+        payload: u16_at(s, PAYLOAD_PLACE),
     };
     Table {
         header,
@@ -244,7 +256,7 @@ fn wire_at(s: &[u8]) -> Wire
 {
     if word(s, WIRE_START) == 1 {
         let frame = frame_at(s, WIRE_START + 1);
-        let left = u32_of(word(s, WIRE_START + 1 + FRAME_WIDTH));
+        let left = u32_at(s, WIRE_START + 1 + FRAME_WIDTH);
         return Wire::Sending(frame, left);
     }
     Wire::Free
@@ -294,7 +306,7 @@ fn no_port() -> Port
     let table = Table {
         header,
         count: 0,
-        rows: [zero_row(); ROWS],
+        rows: [no_row(); ROWS],
     };
     Port {
         table,

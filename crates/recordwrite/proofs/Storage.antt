@@ -8,6 +8,8 @@ use lib.Dec.{leb}
 use lib.ListN.{length, take, replicate, length-take, length-map}
 use lib.Seq.{take-all, take-at}
 use borrow.Author.Tests.{le-leb, lt-leb, leb-true, leb-false}
+use Rattle.table.specs.declared.Pace.{Pace}
+use Rattle.table.specs.declared.Pace.the-variants.{Period, Rated}
 use Rattle.table.specs.declared.Row.{Row}
 use Rattle.table.specs.declared.Table.{Table}
 use Rattle.table.specs.Limits.{mostRows}
@@ -24,12 +26,18 @@ use Rattle.machine.proofs.Places.{waiting-length}
 use Rattle.words.specs.Words.{stored, spread}
 use Rattle.words.proofs.Laws.{more, two, four}
 use Rattle.recordbytes.specs.Layout.{version, headStart, rowsStart, clockStart, queueaStart, queuebStart, bestStart, lastStart, wireStart, idleaPlace, idlebPlace, payloadPlace, countPlace, rowWidth, frameWidth, lastWidth, recordSize}
-use Rattle.recordbytes.specs.Record.{classWord, signedWord, headWords, rowWords, frameWords, lastWords, wireWords, tableOver, queueOver, recordOver}
+use Rattle.recordbytes.specs.Record.{classWord, signedWord, headWords, paceWords, rowWords, frameWords, lastWords, wireWords, tableOver, queueOver, recordOver}
 use Rattle.recordwrite.specs.Written.{written}
 
 module _ (s : List ℕ) (k : ℕ) where
-  pub row-put : (r : Row) {w : ℕ} {l t u v : List ℕ} → w ≡ classWord (r .class) → l ≡ stored s k (w ∷ []) → t ≡ stored l (k + 1) (r .payload ∷ []) → u ≡ stored t (k + 2) (r .period ∷ []) → v ≡ stored u (k + 3) (r .deadline ∷ []) → v ≡ stored s k (rowWords r)
-  row-put r {w} z e f g h = rw z at (four s k w (r .payload) (r .period) (r .deadline) e f g h)
+  pub period-put : {p : Pace} {n : ℕ} {l t : List ℕ} → p ≡ Period n → l ≡ stored s k (0 ∷ []) → t ≡ stored l (k + 1) (n ∷ []) → t ≡ stored s k (paceWords p)
+  period-put {n = n} z e f = rw z (two s k 0 n e f)
+
+  pub rated-put : {p : Pace} {n m : ℕ} {t : List ℕ} → p ≡ Rated m n → t ≡ stored s k (1 ∷ n ∷ m ∷ []) → t ≡ stored s k (paceWords p)
+  rated-put z e = rw z e
+
+  pub row-put : (r : Row) {w : ℕ} {l t : List ℕ} → w ≡ classWord (r .class) → l ≡ stored s k (w ∷ r .payload ∷ r .deadline ∷ []) → t ≡ stored l (k + 3) (paceWords (r .pace)) → t ≡ stored s k (rowWords r)
+  row-put r {w} z e f = rw z at (more s k (w ∷ r .payload ∷ r .deadline ∷ []) (paceWords (r .pace)) e refl f)
 
   pub known-put : (x : Last) {l t : List ℕ} → x .known ≡ true → l ≡ stored s k (1 ∷ []) → t ≡ stored l (k + 1) (x .taken ∷ []) → t ≡ stored s k (lastWords (instantOf x))
   known-put x z e f = rw z (two s k 1 (x .taken) e f)

@@ -8,8 +8,8 @@ ghost use Rattle.table.specs.Limits.{mostRows};
 ghost use Rattle.table.specs.Rows.{rowsOf, contents};
 ghost use Rattle.machine.specs.Limits.{classPlaces, bestPlaces};
 ghost use Rattle.machine.specs.State.{waiting, instantOf, instantsOf};
-ghost use Rattle.recordbytes.specs.Layout.{headStart, rowsStart, clockStart, lastStart, wireStart, rowWidth, frameWidth, lastWidth, recordSize};
-ghost use Rattle.recordbytes.specs.Record.{classWord, signedWord, headWords, rowWords, frameWords, lastWords, wireWords, tableOver, queueOver};
+ghost use Rattle.recordbytes.specs.Layout.{headStart, rowsStart, clockStart, lastStart, wireStart, paceWidth, rowWidth, frameWidth, lastWidth, recordSize};
+ghost use Rattle.recordbytes.specs.Record.{classWord, signedWord, headWords, paceWords, rowWords, frameWords, lastWords, wireWords, tableOver, queueOver};
 ghost use Rattle.recordwrite.specs.Written.{written};
 use machine::BEST_PLACES;
 use machine::BestQueue;
@@ -37,6 +37,7 @@ use recordbytes::ROWS_START;
 use recordbytes::VERSION;
 use recordbytes::WIRE_START;
 use table::Class;
+use table::Pace;
 use table::ROWS;
 use table::Row;
 use table::Table;
@@ -47,6 +48,16 @@ fn put_word(out: &mut [u8], k: usize, w: u64)
     ensures { λ _. ⌜ now (out .exit) ≡ stored (now (out .entry)) k (w ∷ []) ⌝ }
 {
     words::words::put_word(out, k, w)
+}
+
+// Three words, one behind the other.
+fn put_three(out: &mut [u8], k: usize, a: u64, b: u64, c: u64)
+    requires { ⌜ 8 * (k + 3) ≤ length (now out) ⌝ }
+    ensures { λ _. ⌜ now (out .exit) ≡ stored (now (out .entry)) k (a ∷ b ∷ c ∷ []) ⌝ }
+{
+    put_word(out, k, a);
+    put_word(out, k + 1, b);
+    put_word(out, k + 2, c);
 }
 
 // How many of n things have a place.
@@ -87,15 +98,36 @@ fn put_head(out: &mut [u8], t: Table)
     put_word(out, COUNT_PLACE, t.count as u64);
 }
 
+// A pace's mark, and its period, or its rate and samples.
+fn put_pace(out: &mut [u8], k: usize, pace: Pace)
+    requires { ⌜ 8 * (k + paceWidth) ≤ length (now out) ⌝ }
+    ensures { λ _. ⌜ now (out .exit) ≡ stored (now (out .entry)) k (paceWords pace) ⌝ }
+{
+    match pace {
+        Pace::Period(period) => {
+            put_word(out, k, 0);
+            put_word(out, k + 1, period as u64);
+        }
+        Pace::Rated(samples, rate) => {
+            put_three(out, k, 1, rate as u64, samples as u64);
+        }
+    }
+}
+
 fn put_row(out: &mut [u8], k: usize, row: Row)
     requires { ⌜ 8 * (k + rowWidth) ≤ length (now out) ⌝ }
     ensures { λ _. ⌜ now (out .exit) ≡ stored (now (out .entry)) k (rowWords row) ⌝ }
 {
     let class = row.class;
-    put_word(out, k, class_word(class));
-    put_word(out, k + 1, row.payload as u64);
-    put_word(out, k + 2, row.period as u64);
-    put_word(out, k + 3, row.deadline as u64);
+    put_three(
+        out,
+        k,
+        class_word(class),
+        row.payload as u64,
+        row.deadline as u64,
+    );
+    let pace = row.pace;
+    put_pace(out, k + 3, pace);
 }
 
 fn put_rows(out: &mut [u8], t: Table)
@@ -123,18 +155,14 @@ fn put_numbers(out: &mut [u8], clock: u64, a: i64, b: i64)
     requires { ⌜ recordSize ≤ length (now out) ⌝ }
     ensures { λ _. ⌜ now (out .exit) ≡ stored (now (out .entry)) clockStart (clock ∷ signedWord a ∷ signedWord b ∷ []) ⌝ }
 {
-    put_word(out, CLOCK_START, clock);
-    put_word(out, CLOCK_START + 1, signed_word(a));
-    put_word(out, CLOCK_START + 2, signed_word(b));
+    put_three(out, CLOCK_START, clock, signed_word(a), signed_word(b));
 }
 
 fn put_frame(out: &mut [u8], k: usize, frame: Frame)
     requires { ⌜ 8 * (k + frameWidth) ≤ length (now out) ⌝ }
     ensures { λ _. ⌜ now (out .exit) ≡ stored (now (out .entry)) k (frameWords frame) ⌝ }
 {
-    put_word(out, k, frame.source as u64);
-    put_word(out, k + 1, frame.size as u64);
-    put_word(out, k + 2, frame.taken);
+    put_three(out, k, frame.source as u64, frame.size as u64, frame.taken);
 }
 
 fn put_queue(out: &mut [u8], k: usize, q: Queue)

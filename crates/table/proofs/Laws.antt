@@ -1,26 +1,28 @@
 -- What the crates above may know of a table besides its definitions.
-use Prim.Native.Nat.{ℕ, zero, suc, _≤_, _<_}
-use mathlib.Core.Bool.{Bool, true, false, not, cond, _&&_}
+use Prim.Native.Nat.{ℕ, zero, suc, _*_, _≤_, _<_}
+use mathlib.Core.Bool.{Bool, true, false, not, cond, _&&_, false≢true}
 use mathlib.Core.List.{List, [], _∷_}
 use mathlib.Core.Path.{_≡_, refl, sym, _∙_, ap}
-use native.Mathlib.Nat.{le-of-suc-le-suc}
+use native.Mathlib.Nat.{le-of-suc-le-suc, div-lt-iff-lt-mul, le-div-iff-mul-le}
 use native.Mathlib.Omega.{arith}
 use lib.Dec.{leb, eqb}
 use lib.ListN.{length, getD}
 use borrow.Author.Tests.{leb-true, le-leb, lt-leb, lt-ltb, le-ltb, ltb-true, not-true, not-false}
 use Rattle.table.specs.declared.Class.{Class}
 use Rattle.table.specs.declared.Class.the-variants.{A, B}
+use Rattle.table.specs.declared.Pace.{Pace}
+use Rattle.table.specs.declared.Pace.the-variants.{Period, Rated}
 use Rattle.table.specs.declared.Row.{Row}
 use Rattle.table.specs.declared.Header.{Header}
 use Rattle.table.specs.declared.Table.{Table}
 use Rattle.table.specs.declared.Refusal.the-variants.{RowCount, Value, Slopes, Shares, Deadline}
 use Rattle.table.specs.declared.Verdict.{Verdict}
 use Rattle.table.specs.declared.Verdict.the-variants.{Accepted, Refused}
-use Rattle.table.specs.Limits.{mostRows, mostSlope, mostPayload, leastSize, mostSize, leastPeriod, mostPeriod}
-use Rattle.table.specs.Wire.{wireSize, sizeFor, sizeOf, periodOf}
+use Rattle.table.specs.Limits.{mostRows, mostSlope, mostPayload, leastSize, mostSize, leastPeriod, mostPeriod, leastRate, mostRate, mostSamples, second}
+use Rattle.table.specs.Wire.{wireSize, sizeFor, sizeOf, paced, periodOf}
 use Rattle.table.specs.Rows.{noRow, Contents, contents, rowAt, inUse, InUse, sameClass}
 use Rattle.table.specs.Checks.{Outcome, accepted, refused, outcomeOf, unless, passing, unlessRow, first}
-use Rattle.table.specs.Ranges.{countOk, headerOk, rowOk, rangeChecks, ranged, Every, InRange, Ranges}
+use Rattle.table.specs.Ranges.{countOk, headerOk, within, rateOk, samplesOk, paceOk, deadlineOk, rowOk, rangeChecks, ranged, Every, InRange, Ranges}
 use Rattle.table.proofs.Shape.{row-here}
 -- a table record's places and rows, and quotients rounded up
 pub use Rattle.table.proofs.Shape.{places, rows-length, rows-are, row-in-place, next-row, no-row}
@@ -69,7 +71,11 @@ unless-passes false n p e = never e
 
 pub and-true : (a b : Bool) → (a && b) ≡ true → (a ≡ true) × (b ≡ true)
 and-true true b e = (refl, e)
-and-true false b e = let z : _≡_ {A = ℕ} 0 1 = cc in absurd (omega arith)
+and-true false b e = absurd (false≢true e)
+
+pub and-all : (a : Bool) → (a && true) ≡ a
+and-all true = refl
+and-all false = refl
 
 -- what a call's answer says of the test that it stands for
 pub fails : {r t : Bool} → r ≡ t → not r ≡ true → t ≡ false
@@ -171,18 +177,44 @@ unfolding sizeOf sizeFor
 size-most r h = wire-most (r .payload) h
 
 -- ---- rules 3 and 5
+pub is-within : (low high v : ℕ) → within low high v ≡ true → (low ≤ v) × (v ≤ high)
+is-within low high v e = let p = and-true (leb low v) (leb v high) e in (leb-true low v (p .0), leb-true v high (p .1))
+
+-- a pace in range has a period in range: of a rate and samples, one of 625 to 31,875,000 byte-times
+pub rated-period : (samples rate : ℕ) → paceOk (Rated samples rate) ≡ true → (625 ≤ paced (Rated samples rate)) × (paced (Rated samples rate) ≤ 31875000)
+unfolding paceOk paced
+rated-period samples rate e =
+    let p = and-true (rateOk rate) (samplesOk samples) e in
+    let r = is-within leastRate mostRate rate (p .0) in
+    let s = is-within 1 mostSamples samples (p .1) in
+    let least : 625 * rate ≤ samples * second = omega (arith, r .1, s .0) in
+    let above : samples * second < 31875001 * rate = omega (arith, r .0, s .1) in
+    let some : 0 < rate = omega (arith, r .0) in
+    (le-div-iff-mul-le {k = rate} {x = 625} {y = samples * second} some .1 least, omega (arith, div-lt-iff-lt-mul {k = rate} {x = samples * second} {y = 31875001} some .1 above))
+
+paced-range : (p : Pace) → paceOk p ≡ true → (leastPeriod ≤ paced p) × (paced p ≤ mostPeriod)
+unfolding paceOk paced
+paced-range (Period p) e = is-within leastPeriod mostPeriod p e
+paced-range (Rated samples rate) e = let q = rated-period samples rate e in (omega (arith, q .0), omega (arith, q .1))
+
+pub period-range : (r : Row) → paceOk (r .pace) ≡ true → (leastPeriod ≤ periodOf r) × (periodOf r ≤ mostPeriod)
+unfolding periodOf
+period-range r e = paced-range (r .pace) e
+
+pub row-in-range : (r : Row) → r .payload ≤ mostPayload → paceOk (r .pace) ≡ true → 1 ≤ r .deadline → r .deadline ≤ periodOf r → InRange r
+row-in-range r a p b c = record { payload = a; pace = p; shortest = period-range r p .0; longest = period-range r p .1; positive = b; deadline = c }
+
 in-range : (r : Row) → rowOk r ≡ true → InRange r
 unfolding rowOk
 in-range r e =
-    let p = and-true (leb (r .payload) mostPayload && (leb leastPeriod (periodOf r) && leb (periodOf r) mostPeriod)) (leb 1 (r .deadline) && leb (r .deadline) (periodOf r)) e in
-    let q = and-true (leb (r .payload) mostPayload) (leb leastPeriod (periodOf r) && leb (periodOf r) mostPeriod) (p .0) in
-    let u = and-true (leb leastPeriod (periodOf r)) (leb (periodOf r) mostPeriod) (q .1) in
-    let v = and-true (leb 1 (r .deadline)) (leb (r .deadline) (periodOf r)) (p .1) in
-    record { payload = leb-true _ _ (q .0); shortest = leb-true _ _ (u .0); longest = leb-true _ _ (u .1); positive = leb-true _ _ (v .0); deadline = leb-true _ _ (v .1) }
+    let p = and-true (leb (r .payload) mostPayload && paceOk (r .pace)) (deadlineOk r) e in
+    let q = and-true (leb (r .payload) mostPayload) (paceOk (r .pace)) (p .0) in
+    let v = is-within 1 (periodOf r) (r .deadline) (p .1) in
+    row-in-range r (leb-true _ _ (q .0)) (q .1) (v .0) (v .1)
 
 row-passes : (r : Row) → InRange r → rowOk r ≡ true
 unfolding rowOk
-row-passes r e = rw (le-leb _ _ (e .payload), le-leb _ _ (e .shortest), le-leb _ _ (e .longest), le-leb _ _ (e .positive), le-leb _ _ (e .deadline)) refl
+row-passes r e = rw (le-leb _ _ (e .payload), e .pace, le-leb _ _ (e .positive), le-leb _ _ (e .deadline)) refl
 
 count-limits : (rs : List Row) → countOk rs ≡ true → (1 ≤ length rs) × (length rs ≤ mostRows)
 unfolding countOk

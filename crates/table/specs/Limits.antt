@@ -35,6 +35,20 @@ leastPeriod = 84
 abbrev pub mostPeriod : ℕ
 mostPeriod = 1000000000
 
+-- Sample rates of 1,000 to 200,000 Hz, and 1 to 255 samples a frame.
+abbrev pub leastRate : ℕ
+leastRate = 1000
+
+abbrev pub mostRate : ℕ
+mostRate = 200000
+
+abbrev pub mostSamples : ℕ
+mostSamples = 255
+
+-- The byte-times of a second.
+abbrev pub second : ℕ
+second = 125000000
+
 -- The wire size of the largest payload that 16 bits can state, in range or not.
 abbrev pub anySize : ℕ
 anySize = 65577

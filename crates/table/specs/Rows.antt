@@ -6,13 +6,14 @@ use lib.Dec.{ltb}
 use lib.ListN.{length, getD, take, replicate}
 use Rattle.table.specs.declared.Class.{Class}
 use Rattle.table.specs.declared.Class.the-variants.{A, B}
+use Rattle.table.specs.declared.Pace.the-variants.{Period}
 use Rattle.table.specs.declared.Row.{Row}
 use Rattle.table.specs.declared.Header.{Header}
 use Rattle.table.specs.declared.Table.{Table}
 
 -- A row of zeros: what an unused place holds after reading.
 abbrev pub noRow : Row
-noRow = record { class = A; payload = 0; period = 0; deadline = 0 }
+noRow = record { class = A; payload = 0; pace = Period 0; deadline = 0 }
 
 -- What a table says: I of A and of B and the best-effort payload, and its rows, numbered from 0.
 pub record Contents : Type 0 where

@@ -1,7 +1,9 @@
 -- Wire sizes, periods and shares: what a row says of its own stream.
 use Prim.Native.Nat.{ℕ, _+_, _-_, _*_, _/_, max}
+use Rattle.table.specs.declared.Pace.{Pace}
+use Rattle.table.specs.declared.Pace.the-variants.{Period, Rated}
 use Rattle.table.specs.declared.Row.{Row}
-use Rattle.table.specs.Limits.{D}
+use Rattle.table.specs.Limits.{D, second}
 
 -- A quotient, rounded up. (A quotient by 0 is 0.)
 unfoldable pub ceilDiv : ℕ → ℕ → ℕ
@@ -19,9 +21,14 @@ sizeFor r p = wireSize p
 unfoldable pub sizeOf : Row → ℕ
 sizeOf r = sizeFor r (r .payload)
 
--- P: a row's period, in byte-times.
+-- The period of a pace, in byte-times: the one that it states, or samples × 125,000,000 / rate, rounded down.
+unfoldable pub paced : Pace → ℕ
+paced (Period p) = p
+paced (Rated samples rate) = samples * second / rate
+
+-- P: a row's period.
 unfoldable pub periodOf : Row → ℕ
-periodOf r = r .period
+periodOf r = paced (r .pace)
 
 -- A row's share is D × C / P, rounded up.
 unfoldable pub shareOf : Row → ℕ

@@ -3,6 +3,7 @@ pub mod classes;
 pub mod numbers;
 pub mod quotient;
 pub mod ranges;
+pub mod rows;
 pub mod wire;
 
 // The places of a table: the most rows that it has.
@@ -14,11 +15,17 @@ pub enum Class {
     B,
 }
 
-// A stream: its class, payload in bytes, period and deadline in byte-times.
+// How often a stream sends: its period in byte-times, or the samples of a frame and their rate in Hz. (In this order a row takes 16 bytes, with the rate first 20.)
+pub enum Pace {
+    Period(u32),
+    Rated(u8, u32),
+}
+
+// A stream: its class, payload in bytes, pace, and deadline in byte-times.
 pub struct Row {
     pub class: Class,
     pub payload: u16,
-    pub period: u32,
+    pub pace: Pace,
     pub deadline: u32,
 }
 

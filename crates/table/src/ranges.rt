@@ -1,11 +1,13 @@
 // Whether a table's values are in range: refusals 3 and 5.
 ghost use mathlib.Core.Path.{_≡_};
 ghost use Prim.Native.Nat.{_≤_};
+ghost use Rattle.table.specs.declared.Pace.{Pace};
 ghost use Rattle.table.specs.Limits.{mostRows};
 ghost use Rattle.table.specs.Rows.{rowsOf, contents};
 ghost use Rattle.table.specs.Checks.{outcomeOf, passing};
-ghost use Rattle.table.specs.Ranges.{headerOk, rowOk, ranged};
+ghost use Rattle.table.specs.Ranges.{headerOk, within, periodOk, rateOk, samplesOk, paceOk, deadlineOk, rowOk, ranged};
 use crate::Header;
+use crate::Pace;
 use crate::ROWS;
 use crate::Refusal;
 use crate::Row;
@@ -23,9 +25,14 @@ pub const MOST_SLOPE: u32 = 750_000;
 pub const MOST_PAYLOAD: u16 = 1500;
 
 // The shortest and the longest period of a row.
-pub const LEAST_PERIOD: u64 = 84;
+const LEAST_PERIOD: u32 = 84;
 
-pub const MOST_PERIOD: u64 = 1_000_000_000;
+const MOST_PERIOD: u32 = 1_000_000_000;
+
+// The lowest and the highest sample rate.
+const LEAST_RATE: u32 = 1000;
+
+const MOST_RATE: u32 = 200_000;
 
 fn header_ok(h: Header) -> bool
     ensures { λ r. ⌜ r ≡ headerOk h ⌝ }
@@ -39,23 +46,72 @@ fn header_ok(h: Header) -> bool
     h.payload <= MOST_PAYLOAD
 }
 
-fn row_ok(row: Row) -> bool
-    ensures { λ r. ⌜ r ≡ rowOk row ⌝ }
+fn is_within(low: u32, high: u32, v: u32) -> bool
+    ensures { λ r. ⌜ r ≡ within low high v ⌝ }
 {
-    let p = period(row);
-    if MOST_PAYLOAD < row.payload {
+    if v < low {
         return false;
     }
-    if p < LEAST_PERIOD {
+    v <= high
+}
+
+pub fn period_ok(p: u32) -> bool
+    ensures { λ r. ⌜ r ≡ periodOk p ⌝ }
+{
+    is_within(LEAST_PERIOD, MOST_PERIOD, p)
+}
+
+pub fn rate_ok(rate: u32) -> bool
+    ensures { λ r. ⌜ r ≡ rateOk rate ⌝ }
+{
+    is_within(LEAST_RATE, MOST_RATE, rate)
+}
+
+// The field holds no more than 255.
+pub fn samples_ok(samples: u8) -> bool
+    ensures { λ r. ⌜ r ≡ samplesOk samples ⌝ }
+{
+    1 <= samples
+}
+
+fn rated_ok(samples: u8, rate: u32) -> bool
+    ensures { λ r. ⌜ r ≡ paceOk (Pace.Rated samples rate) ⌝ }
+{
+    if !rate_ok(rate) {
         return false;
     }
-    if MOST_PERIOD < p {
-        return false;
+    samples_ok(samples)
+}
+
+fn pace_ok(pace: Pace) -> bool
+    ensures { λ r. ⌜ r ≡ paceOk pace ⌝ }
+{
+    match pace {
+        Pace::Period(p) => period_ok(p),
+        Pace::Rated(samples, rate) => rated_ok(samples, rate),
     }
+}
+
+pub fn deadline_ok(row: Row) -> bool
+    ensures { λ r. ⌜ r ≡ deadlineOk row ⌝ }
+{
     if row.deadline < 1 {
         return false;
     }
-    row.deadline as u64 <= p
+    row.deadline as u64 <= period(row)
+}
+
+fn row_ok(row: Row) -> bool
+    ensures { λ r. ⌜ r ≡ rowOk row ⌝ }
+{
+    let pace = row.pace;
+    if MOST_PAYLOAD < row.payload {
+        return false;
+    }
+    if !pace_ok(pace) {
+        return false;
+    }
+    deadline_ok(row)
 }
 
 // How many rows are in range before the first that is not.

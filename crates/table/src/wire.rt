@@ -1,8 +1,10 @@
 // Wire sizes, periods and shares.
 ghost use mathlib.Core.Path.{_≡_};
 ghost use Prim.Native.Nat.{_*_, _≤_};
+ghost use Rattle.table.specs.declared.Pace.{Pace};
 ghost use Rattle.table.specs.Limits.{D, anySize};
-ghost use Rattle.table.specs.Wire.{wireSize, sizeFor, sizeOf, periodOf, shareOf};
+ghost use Rattle.table.specs.Wire.{wireSize, sizeFor, sizeOf, paced, periodOf, shareOf};
+use crate::Pace;
 use crate::Row;
 use crate::quotient::ceil_div;
 
@@ -11,6 +13,9 @@ pub const D: u64 = 1_000_000;
 
 // The smallest wire size.
 pub const LEAST_SIZE: u32 = 84;
+
+// The byte-times of a second.
+const SECOND: u64 = 125_000_000;
 
 // The bytes on the wire of a frame with this payload.
 pub fn wire_size(payload: u16) -> u64
@@ -41,12 +46,25 @@ pub fn size(row: Row) -> u64
     size_for(row, payload)
 }
 
+// The byte-times in which so many samples come at a rate, rounded down; 0 for a rate of 0, which no table may have.
+fn sampled(samples: u8, rate: u32) -> u64
+    ensures { λ r. ⌜ r ≡ paced (Pace.Rated samples rate) ⌝ }
+{
+    if rate == 0 {
+        return 0;
+    }
+    samples as u64 * SECOND / rate as u64
+}
+
 // P, a row's period.
 pub fn period(row: Row) -> u64
     ensures { λ r. ⌜ r ≡ periodOf row ⌝ }
-    ensures small { λ r. ⌜ r ≤ 4294967295 ⌝ }
 {
-    row.period as u64
+    let pace = row.pace;
+    match pace {
+        Pace::Period(p) => p as u64,
+        Pace::Rated(samples, rate) => sampled(samples, rate),
+    }
 }
 
 // A row's share, D × C / P rounded up. A row with period 0, which no table may have, has share 0.

@@ -1,6 +1,6 @@
 -- A list of bytes that is longer than any table file reads as its front does: the checks look at places of a file, and what stands behind the last row is refused alike.
 use Prim.Native.Nat.{ℕ, zero, suc, _+_, _*_, _≤_, _<_}
-use mathlib.Core.Bool.{Bool, true, false, cond}
+use mathlib.Core.Bool.{Bool, true, false, cond, _&&_, true≢false}
 use mathlib.Core.List.{List}
 use mathlib.Core.Path.{_≡_, refl, sym, _∙_, ap}
 use native.Mathlib.Omega.{arith}
@@ -8,12 +8,17 @@ use lib.Dec.{leb}
 use lib.ListN.{length, getD, take, drop, length-drop}
 use lib.Seq.{length-take-le, take-all, getD-take, getD-drop}
 use borrow.Author.Tests.{leb-true, leb-false, le-leb, lt-leb}
+use Rattle.table.specs.declared.Pace.the-variants as paces
+use Rattle.table.specs.declared.Pace.the-variants.{Rated}
 use Rattle.table.specs.declared.Row.{Row}
 use Rattle.table.specs.Checks.{Outcome, accepted, refused, first}
 use Rattle.table.proofs.Laws as law
-use Rattle.tablefile.specs.Layout.{headerSize, idleaPlace, idlebPlace, bestPlace, countPlace, valueAt, Field, Payload, Period, Deadline, widthOf, bitOf, classOf, sizeIn, placeOf, rowSize}
-use Rattle.tablefile.specs.Reading.{opens, header, rowCount, mapOf, withField, rowFrom, row, behindRow, rowsChecks, rowsEnd, fileEnd, fileChecks, readFile}
+use Rattle.tablefile.specs.Layout.{headerSize, idleaPlace, idlebPlace, bestPlace, countPlace, valueAt, Field, Payload, Period, Deadline, Rate, Samples, widthOf, defaultPayload, defaultPeriod, defaultDeadline, bitOf, reservedClear, twoPaces, classOf, sizeIn, placeOf, rowSize}
+use Rattle.tablefile.specs.Reading.{opens, header, rowCount, mapOf, numberIn, said, blank, withPayload, paceFrom, withPace, withDeadline, pacedFrom, rowFrom, presence, present, judged, row, behindRow, rowsChecks, rowsEnd, fileEnd, fileChecks, readFile}
 use Rattle.tablefile.specs.Front.{mostRow, mostFile, FrontReads}
+use Rattle.table.specs.Limits.{mostRows}
+use Rattle.tablefile.proofs.Sizes.{bit-shared}
+use Rattle.tablefile.proofs.Rows.{row-if}
 use Rattle.tablefile.proofs.HeaderTrip.{header-if}
 
 -- ---- two lists that agree in their first n bytes, and have so many
@@ -44,7 +49,7 @@ header-same {s} {u} a =
     rw (le-leb headerSize (length s) (a .left), le-leb headerSize (length u) (a .right), byte 0 (omega arith), byte 1 (omega arith), byte 2 (omega arith), byte 3 (omega arith))
     (rw (value 4 idleaPlace (omega arith), value 4 idlebPlace (omega arith), value 2 bestPlace (omega arith), byte countPlace (omega arith)) refl)
 
--- ---- a row: no field ends behind its most bytes
+-- ---- a row: without two paces no field that stands ends behind its most bytes
 size-most : (f : Field) (m : ℕ) → sizeIn f m ≤ widthOf f
 size-most f m = by-bit (bitOf f m)
   where
@@ -52,54 +57,136 @@ size-most f m = by-bit (bitOf f m)
     by-bit true = omega arith
     by-bit false = omega arith
 
-place-most : (f : Field) (m : ℕ) → placeOf f m + widthOf f ≤ mostRow
-place-most Payload m = omega arith
-place-most Period m = omega (arith, size-most Payload m)
-place-most Deadline m = omega (arith, size-most Payload m, size-most Period m)
+-- period, rate and samples together take five bytes at most
+paces-most : (m : ℕ) → twoPaces m ≡ false → sizeIn Period m + sizeIn Rate m + sizeIn Samples m ≤ 5
+paces-most m e = rw (← bit-shared m) (by-bits (bitOf Period m) (bitOf Rate m) e)
+  where
+    by-bits : (p q : Bool) → (p && q) ≡ false → cond p (widthOf Period) 0 + cond q (widthOf Rate) 0 + cond q (widthOf Samples) 0 ≤ 5
+    by-bits true true h = absurd (true≢false h)
+    by-bits true false h = omega arith
+    by-bits false true h = omega arith
+    by-bits false false h = omega arith
 
-row-most : (m : ℕ) → rowSize m ≤ mostRow
-row-most m = omega (arith, size-most Payload m, size-most Period m, size-most Deadline m)
+row-most : (m : ℕ) → twoPaces m ≡ false → rowSize m ≤ mostRow
+row-most m e = omega (arith, size-most Payload m, size-most Deadline m, paces-most m e)
+
+-- a field that stands ends within the row
+place-most : (f : Field) (m : ℕ) → twoPaces m ≡ false → bitOf f m ≡ true → placeOf f m + widthOf f ≤ mostRow
+place-most f m e h = let here : sizeIn f m ≡ widthOf f = rw h refl in by-field f here
+  where
+    by-field : (g : Field) → sizeIn g m ≡ widthOf g → placeOf g m + widthOf g ≤ mostRow
+    by-field Payload w = omega arith
+    by-field Period w = omega (arith, size-most Payload m)
+    by-field Deadline w = omega (arith, size-most Payload m, size-most Period m)
+    by-field Rate w = omega (arith, w, row-most m e)
+    by-field Samples w = omega (arith, w, row-most m e)
 
 module _ {s u : List ℕ} (a : Alike mostRow s u) where
   map-same : mapOf s ≡ mapOf u
   map-same = a .byte 0 (omega arith)
 
-  with-same : (f : Field) (r : Row) → withField f s r ≡ withField f u r
-  with-same f r = rw (value-same a (widthOf f) (placeOf f (mapOf s)) (place-most f (mapOf s)), map-same) refl
+  module _ (e : twoPaces (mapOf u) ≡ false) where
+    -- what a field that stands says, and whether it is there
+    number-same : (f : Field) → bitOf f (mapOf u) ≡ true → numberIn f s ≡ numberIn f u
+    number-same f h = rw map-same (value-same a (widthOf f) (placeOf f (mapOf u)) (place-most f (mapOf u) e h))
 
-  from-same : rowFrom s ≡ rowFrom u
-  unfolding rowFrom
-  from-same =
-      let start : ℕ → Row = λ m. record { class = classOf m; payload = 0; period = 0; deadline = 0 } in
-      let first = with-same Payload (start (mapOf s)) ∙ ap (λ m. withField Payload u (start m)) map-same in
-      let second = with-same Period _ ∙ ap (withField Period u) first in
-      with-same Deadline _ ∙ ap (withField Deadline u) second
+    chosen : {X : Type 0} (b : Bool) (x y z : X) → (b ≡ true → x ≡ y) → cond b x z ≡ cond b y z
+    chosen true x y z h = h refl
+    chosen false x y z h = refl
 
-  inside-same : (f : Field) → leb (placeOf f (mapOf u) + widthOf f) (length s) ≡ leb (placeOf f (mapOf u) + widthOf f) (length u)
-  inside-same f =
-      let end = placeOf f (mapOf u) + widthOf f in
-      le-leb end (length s) (omega (arith, place-most f (mapOf u), a .left)) ∙ sym (le-leb end (length u) (omega (arith, place-most f (mapOf u), a .right)))
+    said-same : (f : Field) (d : ℕ) → said f s d ≡ said f u d
+    said-same f d = ap (λ m. cond (bitOf f m) (numberIn f s) d) map-same ∙ chosen (bitOf f (mapOf u)) (numberIn f s) (numberIn f u) d (number-same f)
+
+    rated-same : bitOf Rate (mapOf u) ≡ true → Rated (numberIn Samples s) (numberIn Rate s) ≡ Rated (numberIn Samples u) (numberIn Rate u)
+    rated-same h = rw (number-same Rate h, number-same Samples (sym (bit-shared (mapOf u)) ∙ h)) refl
+
+    pace-same : (r : Row) → paceFrom s r ≡ paceFrom u r
+    pace-same r =
+        let own = paces.Period (said Period s (defaultPeriod r)) in
+        ap (λ m. cond (bitOf Rate m) (Rated (numberIn Samples s) (numberIn Rate s)) own) map-same
+        ∙ chosen (bitOf Rate (mapOf u)) (Rated (numberIn Samples s) (numberIn Rate s)) (Rated (numberIn Samples u) (numberIn Rate u)) own rated-same
+        ∙ ap (λ v. cond (bitOf Rate (mapOf u)) (Rated (numberIn Samples u) (numberIn Rate u)) (paces.Period v)) (said-same Period (defaultPeriod r))
+
+    paced-same : pacedFrom s ≡ pacedFrom u
+    unfolding pacedFrom defaultPayload defaultPeriod
+    paced-same =
+        ap (λ m. withPace s (withPayload s (blank (classOf m)))) map-same
+        ∙ ap (λ v. withPace s (record { class = classOf (mapOf u); payload = v; pace = paces.Period 0; deadline = 0 })) (said-same Payload (defaultPayload (blank (classOf (mapOf u)))))
+        ∙ ap (λ p. record { class = classOf (mapOf u); payload = withPayload u (blank (classOf (mapOf u))) .payload; pace = p; deadline = 0 }) (pace-same (withPayload u (blank (classOf (mapOf u)))))
+
+    from-same : rowFrom s ≡ rowFrom u
+    unfolding rowFrom
+    from-same = ap (withDeadline s) paced-same ∙ ap (λ v. record { class = pacedFrom u .class; payload = pacedFrom u .payload; pace = pacedFrom u .pace; deadline = v }) (said-same Deadline (defaultDeadline (pacedFrom u)))
+
+    present-same : (f : Field) (at : ℕ) → present f s at ≡ present f u at
+    present-same f at = rw map-same (by-bit (bitOf f (mapOf u)) refl)
+      where
+        by-bit : (b : Bool) → bitOf f (mapOf u) ≡ b → presence b (leb (placeOf f (mapOf u) + widthOf f) (length s)) (at + placeOf f (mapOf u)) ≡ presence b (leb (placeOf f (mapOf u) + widthOf f) (length u)) (at + placeOf f (mapOf u))
+        by-bit true h =
+            let end = placeOf f (mapOf u) + widthOf f in
+            let most = place-most f (mapOf u) e h in
+            rw (le-leb end (length s) (omega (arith, most, a .left)), le-leb end (length u) (omega (arith, most, a .right))) refl
+        by-bit false h = refl
+
+    judged-same : (f : Field) (at : ℕ) → judged f s at ≡ judged f u at
+    judged-same f at = rw (from-same, map-same) refl
+
+  long-left : leb 1 (length s) ≡ true
+  long-left = le-leb 1 (length s) (omega (arith, a .left))
+
+  long-right : leb 1 (length u) ≡ true
+  long-right = le-leb 1 (length u) (omega (arith, a .right))
+
+  one-row : (at : ℕ) → twoPaces (mapOf u) ≡ false → row s at ≡ row u at
+  unfolding row
+  one-row at e =
+      rw (long-left, long-right, present-same e Payload at, present-same e Period at, present-same e Deadline at, present-same e Rate at, present-same e Samples at)
+      (rw (from-same e, map-same) refl)
+
+  -- with two paces the map byte decides
+  two-rows : (at : ℕ) → twoPaces (mapOf u) ≡ true → (c : Bool) → reservedClear (mapOf u) ≡ c → row s at ≡ row u at
+  unfolding row
+  two-rows at e true f = rw (long-left, long-right, map-same, f, e) refl
+  two-rows at e false f = rw (long-left, long-right, map-same, f) refl
 
   row-same : (at : ℕ) → row s at ≡ row u at
-  unfolding row
-  row-same at =
-      rw (from-same, map-same, inside-same Payload, inside-same Period, inside-same Deadline, le-leb 1 (length s) (omega (arith, a .left)), le-leb 1 (length u) (omega (arith, a .right))) refl
+  row-same at = by-paces (twoPaces (mapOf u)) refl
+    where
+      by-paces : (b : Bool) → twoPaces (mapOf u) ≡ b → row s at ≡ row u at
+      by-paces true e = two-rows at e (reservedClear (mapOf u)) refl
+      by-paces false e = one-row at e
 
 -- ---- rows one behind the other
 record RowsAlike (n : ℕ) (s u : List ℕ) (at : ℕ) : Type 0 where
-  checks : rowsChecks n s at ≡ rowsChecks n u at
-  end : rowsEnd n s at ≡ rowsEnd n u at
-  most : rowsEnd n u at ≤ at + n * mostRow
+  checks : first (rowsChecks n s at) ≡ first (rowsChecks n u at)
+  end : first (rowsChecks n u at) ≡ accepted → rowsEnd n s at ≡ rowsEnd n u at
+  most : first (rowsChecks n u at) ≡ accepted → rowsEnd n u at ≤ at + n * mostRow
+
+-- a row that is let pass has one pace
+one-pace : (s : List ℕ) (at : ℕ) → row s at ≡ accepted → twoPaces (mapOf s) ≡ false
+one-pace s at e = row-if s at e .one
 
 rows-same : {k : ℕ} {s u : List ℕ} → Alike k s u → (n at : ℕ) → at + n * mostRow ≤ k → RowsAlike n s u at
 unfolding rowsChecks rowsEnd
-rows-same a zero at h = record { checks = refl; end = refl; most = omega arith }
-rows-same {s = s} {u = u} a (suc n) at h =
-    let here : Alike mostRow (drop at s) (drop at u) = behind-same a at (omega arith) in
-    let most : rowSize (mapOf (drop at u)) ≤ mostRow = row-most (mapOf (drop at u)) in
-    let next : behindRow s at ≡ behindRow u at = ap (λ m. at + rowSize m) (map-same here) in
-    let rest = rows-same a n (behindRow u at) (omega arith) in
-    record { checks = rw (row-same here at, next, rest .checks) refl; end = rw next (rest .end); most = omega (arith, rest .most) }
+rows-same a zero at h = record { checks = refl; end = λ e. refl; most = λ e. omega arith }
+rows-same {k = k} {s = s} {u = u} a (suc n) at h = by-row (λ g. rows-same a n (behindRow u at) g) (row (drop at u) at) refl
+  where
+    here : Alike mostRow (drop at s) (drop at u)
+    here = behind-same a at (omega arith)
+
+    next : behindRow s at ≡ behindRow u at
+    next = ap (λ m. at + rowSize m) (map-same here)
+
+    by-row : (behindRow u at + n * mostRow ≤ k → RowsAlike n s u (behindRow u at)) → (o : Outcome) → row (drop at u) at ≡ o → RowsAlike (suc n) s u at
+    by-row again accepted e =
+        let most = row-most (mapOf (drop at u)) (one-pace (drop at u) at e) in
+        let rest = again (omega arith) in
+        record {
+          checks = rw (row-same here at, e, next) (rest .checks);
+          end = λ f. rw next (rest .end (rw e at f));
+          most = λ f. omega (arith, rest .most (rw e at f));
+        }
+    by-row again (refused number place) e = record { checks = rw (row-same here at, e) refl; end = λ f. law.never (rw e at f); most = λ f. law.never (rw e at f) }
 
 -- ---- the file
 module _ {k : ℕ} {s u : List ℕ} (more : mostFile < k) (a : Alike k s u) where
@@ -109,31 +196,39 @@ module _ {k : ℕ} {s u : List ℕ} (more : mostFile < k) (a : Alike k s u) wher
   count-same : rowCount s ≡ rowCount u
   count-same = head .byte countPlace (omega arith)
 
-  module _ (e : header s ≡ accepted) where
-    rows : RowsAlike (rowCount s) s u headerSize
-    rows = rows-same a (rowCount s) headerSize (omega (arith, header-if s e .most))
+  module _ (e : header u ≡ accepted) where
+    few : rowCount u ≤ mostRows
+    few = header-if u e .most
 
-    ends : fileEnd u < k
-    ends = let most = rw count-same at (rows .most) in omega (arith, most, count-same, header-if s e .most)
+    rows : RowsAlike (rowCount u) s u headerSize
+    rows = rows-same a (rowCount u) headerSize (omega (arith, few))
 
-    goes-on : (n : ℕ) → k ≤ n → leb n (fileEnd u) ≡ false
-    goes-on n h = lt-leb n (fileEnd u) (omega (arith, ends))
+    module _ (f : first (rowsChecks (rowCount u) u headerSize) ≡ accepted) where
+      ends : fileEnd u < k
+      ends = omega (arith, rows .most f, few)
 
-  checks-same : (o : Outcome) → header s ≡ o → first (fileChecks s) ≡ first (fileChecks u)
-  checks-same accepted e =
-      rw (header-same head, rows e .checks, rows e .end, count-same, goes-on e (length s) (a .left), goes-on e (length u) (a .right)) refl
-  checks-same (refused n p) e = rw (← header-same head, e) refl
+      goes-on : (n : ℕ) → k ≤ n → leb n (fileEnd u) ≡ false
+      goes-on n h = lt-leb n (fileEnd u) (omega (arith, ends))
+
+    rows-checks-same : (o : Outcome) → first (rowsChecks (rowCount u) u headerSize) ≡ o → first (fileChecks s) ≡ first (fileChecks u)
+    rows-checks-same accepted f =
+        rw (header-same head, e, count-same, rows .checks, f, rows .end f, goes-on f (length s) (a .left), goes-on f (length u) (a .right)) refl
+    rows-checks-same (refused n p) f = rw (header-same head, e, count-same, rows .checks, f) refl
+
+  checks-same : (o : Outcome) → header u ≡ o → first (fileChecks s) ≡ first (fileChecks u)
+  checks-same accepted e = rows-checks-same e (first (rowsChecks (rowCount u) u headerSize)) refl
+  checks-same (refused n p) e = rw (header-same head, e) refl
 
   not-whole : first (fileChecks u) ≡ accepted → ⊥
   not-whole e =
       let x = law.all-accept (fileChecks u) e in
       let last : length u ≤ fileEnd u = leb-true (length u) (fileEnd u) (law.unless-passes (leb (length u) (fileEnd u)) 7 (fileEnd u) (x .1 .1 .0)) in
-      omega (arith, ends (header-same head ∙ x .0), a .right)
+      omega (arith, ends (x .0) (x .1 .0), a .right)
 
   reads-same : (o : Outcome) → first (fileChecks u) ≡ o → readFile s ≡ readFile u
   unfolding readFile
   reads-same accepted e = absurd (not-whole e)
-  reads-same (refused n p) e = rw (checks-same (header s) refl, e) refl
+  reads-same (refused n p) e = rw (checks-same (header u) refl, e) refl
 
 pub front-reads : FrontReads
 front-reads k s more = by-length (leb k (length s)) refl

@@ -1,111 +1,184 @@
 -- A row's bytes, there and back.
 use Prim.Native.Nat.{ℕ, _+_, _≤_, _<_}
-use mathlib.Core.Bool.{Bool, true, false, not, cond, _&&_}
+use mathlib.Core.Bool.{Bool, true, false, not, cond, _&&_, true≢false, false≢true}
 use mathlib.Core.List.{List, [], _∷_, _++_, append-assoc}
 use mathlib.Core.Path.{_≡_, refl, sym, _∙_, ap}
 use native.Mathlib.Nat.{add-zero}
 use native.Mathlib.Omega.{arith}
-use lib.Dec.{leb}
 use lib.ListN.{length, drop, length-append, length-drop}
-use borrow.Author.Tests.{eqb-true, eq-eqb, leb-true, le-leb}
+use borrow.Author.Tests.{eqb-true, eq-eqb, leb-true, le-leb, not-true, not-false}
 use Rattle.table.specs.declared.Class.{Class}
-use Rattle.table.specs.declared.Class.the-variants.{A, B}
+use Rattle.table.specs.declared.Pace.{Pace}
+use Rattle.table.specs.declared.Pace.the-variants as paces
 use Rattle.table.specs.declared.Row.{Row}
-use Rattle.table.specs.Limits.{mostPayload, leastPeriod, mostPeriod}
+use Rattle.table.specs.Limits.{mostPayload, leastPeriod, mostPeriod, leastRate, mostRate, mostSamples}
 use Rattle.table.specs.Wire.{periodOf}
 use Rattle.table.specs.Checks.{accepted}
-use Rattle.table.specs.Ranges.{InRange}
-use Rattle.tablefile.specs.Layout.{valueAt, bytesOf, Field, Payload, Period, Deadline, valueOf, widthOf, periodFor, defaultOf, bitOf, classOf, sizeIn, placeOf, rowSize}
-use Rattle.tablefile.specs.Reading.{mapOf, withValue, withField, rowFrom, fine, row}
+use Rattle.table.specs.Ranges.{periodOk, rateOk, samplesOk, paceOk, InRange}
+use Rattle.tablefile.specs.Layout.{bytesOf, Field, Payload, Period, Deadline, Rate, Samples, rated, statedOf, rateOf, samplesOf, valueOf, widthOf, defaultPayload, defaultPeriod, defaultDeadline, usual, carries, states, bitOf, classOf, sizeIn, placeOf, rowSize}
+use Rattle.tablefile.specs.Reading.{mapOf, numberIn, said, blank, paceFrom, withPayload, withPace, withDeadline, pacedFrom, rowFrom, fine, row}
 use Rattle.tablefile.specs.Writing.{mapByte, fieldBytes, rowBytes}
 use Rattle.tablefile.specs.RoundTrip.{Bytes}
-use Rattle.tablefile.proofs.Rows.{RowRead, row-only-if}
-use Rattle.tablefile.proofs.Sizes.{bytes-length, field-size, row-length}
+use Rattle.tablefile.proofs.Rows.{Judged, RowRead, pace-in-range, row-only-if}
+use Rattle.tablefile.proofs.Sizes.{bit-shared, bytes-length, field-size, row-length}
 use Rattle.tablefile.proofs.FieldTrip.{below, value-back, byte-below, bytes-at, behind}
-use Rattle.tablefile.proofs.MapTrip.{usual, map-for, map-says, map-back}
+use Rattle.tablefile.proofs.MapTrip.{map-for, map-says, map-back}
 use Rattle.table.proofs.Laws as law
 
 -- ---- a row's bytes read as the row, whatever follows
-fine-in : (r : Row) → InRange r → (f : Field) → fine f r ≡ true
-fine-in r g Payload = le-leb _ _ (g .payload)
-fine-in r g Period = rw (le-leb _ _ (g .shortest), le-leb _ _ (g .longest)) refl
-fine-in r g Deadline = rw (le-leb _ _ (g .positive), le-leb _ _ (g .deadline)) refl
+-- a pace in range: what it states is, and each number fits its bytes
+stated-fine : (p : Pace) → paceOk p ≡ true → not (rated p) ≡ true → periodOk (statedOf p) ≡ true
+unfolding paceOk
+stated-fine (paces.Period p) g e = g
+stated-fine (paces.Rated samples rate) g e = cc
+
+rate-fine : (p : Pace) → paceOk p ≡ true → rated p ≡ true → rateOk (rateOf p) ≡ true
+unfolding paceOk
+rate-fine (paces.Period p) g e = cc
+rate-fine (paces.Rated samples rate) g e = law.and-true (rateOk rate) (samplesOk samples) g .0
+
+samples-fine : (p : Pace) → paceOk p ≡ true → rated p ≡ true → samplesOk (samplesOf p) ≡ true
+unfolding paceOk
+samples-fine (paces.Period p) g e = cc
+samples-fine (paces.Rated samples rate) g e = law.and-true (rateOk rate) (samplesOk samples) g .1
+
+stated-most : (p : Pace) → paceOk p ≡ true → statedOf p ≤ mostPeriod
+unfolding paceOk
+stated-most (paces.Period p) g = law.is-within leastPeriod mostPeriod p g .1
+stated-most (paces.Rated samples rate) g = omega arith
+
+rate-most : (p : Pace) → paceOk p ≡ true → rateOf p ≤ mostRate
+unfolding paceOk
+rate-most (paces.Period p) g = omega arith
+rate-most (paces.Rated samples rate) g = law.is-within leastRate mostRate rate (law.and-true (rateOk rate) (samplesOk samples) g .0) .1
+
+samples-most : (p : Pace) → paceOk p ≡ true → samplesOf p ≤ mostSamples
+unfolding paceOk
+samples-most (paces.Period p) g = omega arith
+samples-most (paces.Rated samples rate) g = law.is-within 1 mostSamples samples (law.and-true (rateOk rate) (samplesOk samples) g .1) .1
+
+fine-in : (r : Row) → InRange r → (f : Field) → carries f (r .pace) ≡ true → fine f r ≡ true
+fine-in r g Payload e = le-leb _ _ (g .payload)
+fine-in r g Period e = stated-fine (r .pace) (g .pace) e
+fine-in r g Deadline e = rw (le-leb _ _ (g .positive), le-leb _ _ (g .deadline)) refl
+fine-in r g Rate e = rate-fine (r .pace) (g .pace) e
+fine-in r g Samples e = samples-fine (r .pace) (g .pace) e
 
 fits : (r : Row) → InRange r → (f : Field) → valueOf f r < below (widthOf f)
-unfolding periodOf
 fits r g Payload = omega (arith, g .payload)
-fits r g Period = omega (arith, g .longest)
+fits r g Period = omega (arith, stated-most (r .pace) (g .pace))
 fits r g Deadline = omega (arith, g .deadline, g .longest)
+fits r g Rate = omega (arith, rate-most (r .pace) (g .pace))
+fits r g Samples = omega (arith, samples-most (r .pace) (g .pace))
 
-true-not : (b : Bool) → true ≡ not b → b ≡ false
-true-not true e = cc
-true-not false e = refl
+-- of two values the one that a bit chooses, and what two values have in common
+pick : {X : Type 0} (b : Bool) (x y v : X) → (b ≡ true → x ≡ v) → (b ≡ false → y ≡ v) → cond b x y ≡ v
+pick true x y v f g = f refl
+pick false x y v f g = g refl
 
-false-not : (b : Bool) → false ≡ not b → b ≡ true
-false-not true e = refl
-false-not false e = cc
+at-default : (c u : Bool) → (c && not u) ≡ false → c ≡ true → u ≡ true
+at-default true u e h = not-false u e
+at-default false u e h = absurd (false≢true h)
+
+both : {samples rate x y : ℕ} → x ≡ samples → y ≡ rate → paces.Rated x y ≡ paces.Rated samples rate
+both e f = cc
 
 width-some : (f : Field) → 1 ≤ widthOf f
 width-some Payload = omega arith
 width-some Period = omega arith
 width-some Deadline = omega arith
+width-some Rate = omega arith
+width-some Samples = omega arith
 
 -- the row's bytes and what follows them, field after field
 module _ (r : Row) (rest : List ℕ) where
+  abbrev after : Field → List ℕ
+  after Samples = rest
+  after Rate = fieldBytes Samples r ++ rest
+  after Deadline = fieldBytes Rate r ++ (fieldBytes Samples r ++ rest)
+  after Period = fieldBytes Deadline r ++ (fieldBytes Rate r ++ (fieldBytes Samples r ++ rest))
+  after Payload = fieldBytes Period r ++ (fieldBytes Deadline r ++ (fieldBytes Rate r ++ (fieldBytes Samples r ++ rest)))
+
   abbrev spread : List ℕ
-  spread = mapByte r ∷ fieldBytes Payload r ++ (fieldBytes Period r ++ (fieldBytes Deadline r ++ rest))
+  spread = mapByte r ∷ fieldBytes Payload r ++ after Payload
 
   spread-out : rowBytes r ++ rest ≡ spread
   unfolding rowBytes
   spread-out = simp append-assoc
 
-  abbrev after : Field → List ℕ
-  after Payload = fieldBytes Period r ++ (fieldBytes Deadline r ++ rest)
-  after Period = fieldBytes Deadline r ++ rest
-  after Deadline = rest
+  -- behind a field's bytes the next field stands
+  next-at : (f : Field) → drop (placeOf f (mapByte r)) spread ≡ fieldBytes f r ++ after f → drop (placeOf f (mapByte r) + sizeIn f (mapByte r)) spread ≡ after f
+  next-at f e = rw (← field-size f r) (behind spread (placeOf f (mapByte r)) (fieldBytes f r) (after f) e)
 
   stands-at : (f : Field) → drop (placeOf f (mapByte r)) spread ≡ fieldBytes f r ++ after f
   stands-at Payload = refl
-  stands-at Period = rw (← field-size Payload r) (behind spread 1 (fieldBytes Payload r) (after Payload) refl)
-  stands-at Deadline = rw (← field-size Payload r, ← field-size Period r) (behind spread (1 + length (fieldBytes Payload r)) (fieldBytes Period r) (after Period) (behind spread 1 (fieldBytes Payload r) (after Payload) refl))
+  stands-at Period = next-at Payload refl
+  stands-at Deadline = next-at Period (next-at Payload refl)
+  stands-at Rate = next-at Deadline (next-at Period (next-at Payload refl))
+  stands-at Samples = next-at Rate (next-at Deadline (next-at Period (next-at Payload refl)))
+
+  -- a field that stands is within the bytes
+  here : (f : Field) → bitOf f (mapByte r) ≡ true → drop (placeOf f (mapByte r)) spread ≡ bytesOf (widthOf f) (valueOf f r) ++ after f
+  here f e = rw e at (stands-at f)
+
+  inside : (f : Field) → bitOf f (mapByte r) ≡ true → placeOf f (mapByte r) + widthOf f ≤ length spread
+  inside f e =
+      omega (arith, sym (length-drop (placeOf f (mapByte r)) spread) ∙ ap length (here f e), length-append (bytesOf (widthOf f) (valueOf f r)) (after f), bytes-length (widthOf f) (valueOf f r), width-some f)
 
   module _ (g : InRange r) where
-    -- a field reads as its value
-    said : (f : Field) → cond (bitOf f (mapByte r)) (valueAt (widthOf f) spread (placeOf f (mapByte r))) (defaultOf f r) ≡ valueOf f r
-    said f = go (bitOf f (mapByte r)) refl (stands-at f)
-      where
-        go : (b : Bool) → bitOf f (mapByte r) ≡ b → drop (placeOf f (mapByte r)) spread ≡ cond b (bytesOf (widthOf f) (valueOf f r)) [] ++ after f
-            → cond b (valueAt (widthOf f) spread (placeOf f (mapByte r))) (defaultOf f r) ≡ valueOf f r
-        go true e d = value-back (widthOf f) (valueOf f r) spread (placeOf f (mapByte r)) (after f) (fits r g f) d
-        go false e d = sym (eqb-true (valueOf f r) (defaultOf f r) (false-not (usual f r) (sym e ∙ map-says r .field f)))
+    -- and reads as its value
+    number : (f : Field) → bitOf f (mapByte r) ≡ true → numberIn f spread ≡ valueOf f r
+    number f e = value-back (widthOf f) (valueOf f r) spread (placeOf f (mapByte r)) (after f) (fits r g f) (here f e)
 
-    abbrev blank : Class → Row
-    blank c = record { class = c; payload = 0; period = 0; deadline = 0 }
+    -- one that does not is at its default, if the row has it
+    silent : (f : Field) → bitOf f (mapByte r) ≡ false → carries f (r .pace) ≡ true → usual f r ≡ true
+    silent f e h = at-default (carries f (r .pace)) (usual f r) (sym (map-says r .field f) ∙ e) h
+
+    payload-back : said Payload spread (defaultPayload r) ≡ r .payload
+    payload-back = pick (bitOf Payload (mapByte r)) (numberIn Payload spread) (defaultPayload r) (r .payload) (number Payload) (λ e. sym (eqb-true (r .payload) (defaultPayload r) (silent Payload e refl)))
+
+    deadline-back : said Deadline spread (defaultDeadline r) ≡ r .deadline
+    deadline-back = pick (bitOf Deadline (mapByte r)) (numberIn Deadline spread) (defaultDeadline r) (r .deadline) (number Deadline) (λ e. sym (eqb-true (r .deadline) (defaultDeadline r) (silent Deadline e refl)))
+
+    period-back : rated (r .pace) ≡ false → said Period spread (defaultPeriod r) ≡ statedOf (r .pace)
+    period-back own =
+        let has : carries Period (r .pace) ≡ true = rw own refl in
+        pick (bitOf Period (mapByte r)) (numberIn Period spread) (defaultPeriod r) (statedOf (r .pace)) (number Period) (λ e. sym (eqb-true (statedOf (r .pace)) (defaultPeriod r) (silent Period e has)))
+
+    rate-bit : bitOf Rate (mapByte r) ≡ rated (r .pace)
+    rate-bit = map-says r .field Rate ∙ law.and-all (rated (r .pace))
+
+    pace-back : paceFrom spread r ≡ r .pace
+    pace-back = go (r .pace) refl
+      where
+        go : (p : Pace) → r .pace ≡ p → paceFrom spread r ≡ p
+        go (paces.Period p) e =
+            pick (bitOf Rate (mapByte r)) (paces.Rated (numberIn Samples spread) (numberIn Rate spread)) (paces.Period (said Period spread (defaultPeriod r))) (paces.Period p)
+            (λ bit. absurd (true≢false (sym bit ∙ rate-bit ∙ ap rated e)))
+            (λ bit. ap paces.Period (period-back (ap rated e) ∙ ap statedOf e))
+        go (paces.Rated samples rate) e =
+            pick (bitOf Rate (mapByte r)) (paces.Rated (numberIn Samples spread) (numberIn Rate spread)) (paces.Period (said Period spread (defaultPeriod r))) (paces.Rated samples rate)
+            (λ bit. both (number Samples (sym (bit-shared (mapByte r)) ∙ bit) ∙ ap samplesOf e) (number Rate bit ∙ ap rateOf e))
+            (λ bit. absurd (true≢false (sym (rate-bit ∙ ap rated e) ∙ bit)))
 
     spread-back : rowFrom spread ≡ r
-    unfolding rowFrom defaultOf periodOf
+    unfolding rowFrom pacedFrom defaultPayload defaultPeriod defaultDeadline periodOf
     spread-back =
-        ap (λ (c : Class). withField Deadline spread (withField Period spread (withField Payload spread (blank c)))) (map-says r .class)
-        ∙ ap (λ (v : ℕ). withField Deadline spread (withField Period spread (withValue Payload (blank (r .class)) v))) (said Payload)
-        ∙ ap (λ (v : ℕ). withField Deadline spread (withValue Period (withValue Payload (blank (r .class)) (r .payload)) v)) (said Period)
-        ∙ ap (λ (v : ℕ). withValue Deadline (withValue Period (withValue Payload (blank (r .class)) (r .payload)) (r .period)) v) (said Deadline)
+        ap (λ (c : Class). withDeadline spread (withPace spread (withPayload spread (blank c)))) (map-says r .class)
+        ∙ ap (λ (v : ℕ). withDeadline spread (withPace spread (record { class = r .class; payload = v; pace = paces.Period 0; deadline = 0 }))) payload-back
+        ∙ ap (λ (p : Pace). withDeadline spread (record { class = r .class; payload = r .payload; pace = p; deadline = 0 })) pace-back
+        ∙ ap (λ (v : ℕ). record { class = r .class; payload = r .payload; pace = r .pace; deadline = v }) deadline-back
 
-    -- and stands within the bytes
-    inside : (f : Field) → bitOf f (mapByte r) ≡ true → placeOf f (mapByte r) + widthOf f ≤ length spread
-    inside f e =
-        let here : drop (placeOf f (mapByte r)) spread ≡ bytesOf (widthOf f) (valueOf f r) ++ after f = rw e at (stands-at f) in
-        omega (arith, sym (length-drop (placeOf f (mapByte r)) spread) ∙ ap length here, length-append (bytesOf (widthOf f) (valueOf f r)) (after f), bytes-length (widthOf f) (valueOf f r), width-some f)
+    judged : (f : Field) → bitOf f (mapByte r) ≡ true → Judged (fine f r) (usual f r)
+    judged f e =
+        let x = law.and-true (carries f (r .pace)) (not (usual f r)) (sym (map-says r .field f) ∙ e) in
+        record { ok = fine-in r g f (x .0); other = not-true (usual f r) (x .1) }
 
-    other : (f : Field) → bitOf f (mapByte r) ≡ true → usual f r ≡ false
-    other f e = true-not (usual f r) (sym e ∙ map-says r .field f)
+    judged-read : (f : Field) → bitOf f (mapByte r) ≡ true → Judged (fine f (rowFrom spread)) (usual f (rowFrom spread))
+    judged-read f e = rw spread-back (judged f e)
 
     spread-reads : RowRead spread
-    spread-reads =
-        record {
-          long = omega arith;
-          bits = map-says r .rest;
-          field = λ f. rw spread-back (record { inside = λ e. le-leb _ _ (inside f e); ok = λ e. fine-in r g f; other = other f });
-        }
+    spread-reads = record { long = omega arith; bits = map-says r .rest; one = map-says r .one; inside = λ f e. le-leb _ _ (inside f e); fit = judged-read }
 
 -- the row is read back, and accepted at any place
 pub row-back : (r : Row) (rest s : List ℕ) → InRange r → s ≡ rowBytes r ++ rest → rowFrom s ≡ r
@@ -122,76 +195,111 @@ pub record RowOf (s : List ℕ) : Type 0 where
   pub bytes : s ≡ rowBytes (rowFrom s) ++ drop (rowSize (mapOf s)) s
   pub range : InRange (rowFrom s)
 
-value-read : (f : Field) (s : List ℕ) → valueOf f (rowFrom s) ≡ cond (bitOf f (mapOf s)) (valueAt (widthOf f) s (placeOf f (mapOf s))) (defaultOf f (rowFrom s))
-unfolding rowFrom defaultOf periodOf
-value-read Payload s = refl
-value-read Period s = refl
-value-read Deadline s = refl
+-- a default is in range, the deadline's where the pace is
+payload-default : (r : Row) → defaultPayload r ≤ mostPayload
+unfolding defaultPayload
+payload-default r = omega arith
 
-stated : (f : Field) (s : List ℕ) → bitOf f (mapOf s) ≡ true → valueOf f (rowFrom s) ≡ valueAt (widthOf f) s (placeOf f (mapOf s))
-stated f s e = value-read f s ∙ rw e refl
+deadline-default : (r : Row) → paceOk (r .pace) ≡ true → (1 ≤ defaultDeadline r) × (defaultDeadline r ≤ periodOf r)
+unfolding defaultDeadline
+deadline-default r e = (omega (arith, law.period-range r e .0), omega arith)
 
-unstated : (f : Field) (s : List ℕ) → bitOf f (mapOf s) ≡ false → valueOf f (rowFrom s) ≡ defaultOf f (rowFrom s)
-unstated f s e = value-read f s ∙ rw e refl
-
--- a default is in range, the deadline's where the period is
-fine-usual : (f : Field) (r : Row) → valueOf f r ≡ defaultOf f r → (f ≡ Deadline → fine Period r ≡ true) → fine f r ≡ true
-unfolding defaultOf periodOf
-fine-usual Payload r e g = le-leb (r .payload) mostPayload (omega arith)
-fine-usual Period r e g = go (r .class) e
-  where
-    go : (c : Class) → r .period ≡ periodFor c → (leb leastPeriod (r .period) && leb (r .period) mostPeriod) ≡ true
-    go A q = rw q refl
-    go B q = rw q refl
-fine-usual Deadline r e g =
-    let p = law.and-true (leb leastPeriod (r .period)) (leb (r .period) mostPeriod) (g refl) in
-    rw (le-leb 1 (r .deadline) (omega (arith, leb-true leastPeriod (r .period) (p .0))), le-leb (r .deadline) (r .period) (omega arith)) refl
+-- beside a period's bit no rate's stands
+no-rate : (p q : Bool) → (p && q) ≡ false → p ≡ true → q ≡ false
+no-rate true q e h = e
+no-rate false q e h = cc
 
 module _ (s : List ℕ) (x : RowRead s) where
-  fine-read : (f : Field) → (f ≡ Deadline → fine Period (rowFrom s) ≡ true) → fine f (rowFrom s) ≡ true
-  fine-read f g = go (bitOf f (mapOf s)) refl
+  abbrev m : ℕ
+  m = mapOf s
+
+  abbrev r : Row
+  r = rowFrom s
+
+  -- a field that stands says its number
+  stated : (f : Field) → bitOf f m ≡ true → valueOf f r ≡ numberIn f s
+  unfolding rowFrom pacedFrom
+  stated Payload e = rw e refl
+  stated Period e = rw (no-rate (bitOf Period m) (bitOf Rate m) (x .one) e, e) refl
+  stated Deadline e = rw e refl
+  stated Rate e = rw e refl
+  stated Samples e = rw (bit-shared m ∙ e) refl
+
+  -- one that does not is at its default, or not the row's to state
+  payload-unstated : bitOf Payload m ≡ false → r .payload ≡ defaultPayload r
+  unfolding rowFrom pacedFrom defaultPayload
+  payload-unstated e = rw e refl
+
+  deadline-unstated : bitOf Deadline m ≡ false → r .deadline ≡ defaultDeadline r
+  unfolding rowFrom defaultDeadline periodOf
+  deadline-unstated e = rw e refl
+
+  period-unstated : bitOf Rate m ≡ false → bitOf Period m ≡ false → statedOf (r .pace) ≡ defaultPeriod r
+  unfolding rowFrom pacedFrom defaultPeriod
+  period-unstated e f = rw (e, f) refl
+
+  rated-read : rated (r .pace) ≡ bitOf Rate m
+  unfolding rowFrom pacedFrom
+  rated-read = go (bitOf Rate m) refl
     where
-      go : (b : Bool) → bitOf f (mapOf s) ≡ b → fine f (rowFrom s) ≡ true
-      go true e = x .field f .ok e
-      go false e = fine-usual f (rowFrom s) (unstated f s e) g
+      go : (b : Bool) → bitOf Rate m ≡ b → rated (paceFrom s (withPayload s (blank (classOf m)))) ≡ b
+      go true e = rw e refl
+      go false e = rw e refl
 
-  no-deadline : Period ≡ Deadline → fine Period (rowFrom s) ≡ true
-  no-deadline e = let z : _≡_ {A = ℕ} 0 1 = cc in absurd (omega arith)
-
-  in-range : InRange (rowFrom s)
-  in-range =
-      let r = rowFrom s in
-      let period = fine-read Period no-deadline in
-      let p = law.and-true (leb leastPeriod (periodOf r)) (leb (periodOf r) mostPeriod) period in
-      let d = law.and-true (leb 1 (r .deadline)) (leb (r .deadline) (periodOf r)) (fine-read Deadline (λ e. period)) in
-      record {
-        payload = leb-true _ _ (fine-read Payload (λ e. period));
-        shortest = leb-true _ _ (p .0);
-        longest = leb-true _ _ (p .1);
-        positive = leb-true _ _ (d .0);
-        deadline = leb-true _ _ (d .1);
-      }
-
-  read-usual : (f : Field) → not (bitOf f (mapOf s)) ≡ usual f (rowFrom s)
-  read-usual f = go (bitOf f (mapOf s)) refl
+  payload-range : r .payload ≤ mostPayload
+  payload-range = go (bitOf Payload m) refl
     where
-      go : (b : Bool) → bitOf f (mapOf s) ≡ b → not b ≡ usual f (rowFrom s)
-      go true e = sym (x .field f .other e)
-      go false e = sym (eq-eqb _ _ (unstated f s e))
+      go : (b : Bool) → bitOf Payload m ≡ b → r .payload ≤ mostPayload
+      go true e = leb-true _ _ (x .fit Payload e .ok)
+      go false e = rw (payload-unstated e) (payload-default r)
 
-  class-read : rowFrom s .class ≡ classOf (mapOf s)
+  pace-range : paceOk (r .pace) ≡ true
   unfolding rowFrom
+  pace-range = pace-in-range s x
+
+  deadline-range : (1 ≤ r .deadline) × (r .deadline ≤ periodOf r)
+  deadline-range = go (bitOf Deadline m) refl
+    where
+      go : (b : Bool) → bitOf Deadline m ≡ b → (1 ≤ r .deadline) × (r .deadline ≤ periodOf r)
+      go true e = law.is-within 1 (periodOf r) (r .deadline) (x .fit Deadline e .ok)
+      go false e = let y = deadline-default r pace-range in (omega (arith, y .0, deadline-unstated e), omega (arith, y .1, deadline-unstated e))
+
+  in-range : InRange r
+  in-range = law.row-in-range r payload-range pace-range (deadline-range .0) (deadline-range .1)
+
+  -- the row states the fields whose bits stand
+  by-default : (b u : Bool) → (b ≡ true → u ≡ false) → (b ≡ false → u ≡ true) → b ≡ (true && not u)
+  by-default true u f g = rw (f refl) refl
+  by-default false u f g = rw (g refl) refl
+
+  read-states : (f : Field) → bitOf f m ≡ states f r
+  read-states Payload = by-default (bitOf Payload m) (usual Payload r) (λ e. x .fit Payload e .other) (λ e. eq-eqb _ _ (payload-unstated e))
+  read-states Period = go (bitOf Period m) (bitOf Rate m) refl refl
+    where
+      go : (a b : Bool) → bitOf Period m ≡ a → bitOf Rate m ≡ b → a ≡ states Period r
+      go true b e f = rw (rated-read, no-rate (bitOf Period m) (bitOf Rate m) (x .one) e, x .fit Period e .other) refl
+      go false true e f = rw (rated-read, f) refl
+      go false false e f = rw (rated-read, f, eq-eqb _ _ (period-unstated f e)) refl
+  read-states Deadline = by-default (bitOf Deadline m) (usual Deadline r) (λ e. x .fit Deadline e .other) (λ e. eq-eqb _ _ (deadline-unstated e))
+  read-states Rate = sym rated-read ∙ sym (law.and-all (rated (r .pace)))
+  read-states Samples = sym (bit-shared m) ∙ sym rated-read ∙ sym (law.and-all (rated (r .pace)))
+
+  class-read : r .class ≡ classOf m
+  unfolding rowFrom pacedFrom
   class-read = refl
 
-  map-read : Bytes s → mapByte (rowFrom s) ≡ mapOf s
-  map-read b = map-for (rowFrom s) ∙ rw (← read-usual Payload, ← read-usual Period, ← read-usual Deadline, class-read) (sym (map-back (mapOf s) (byte-below s b 0) (x .bits)))
+  map-read : Bytes s → mapByte r ≡ m
+  map-read b = map-for r ∙ rw (← read-states Payload, ← read-states Period, ← read-states Deadline, ← read-states Rate, class-read) (sym (map-back m (byte-below s b 0) (x .bits)))
 
-  field-read : Bytes s → (f : Field) → drop (placeOf f (mapOf s)) s ≡ fieldBytes f (rowFrom s) ++ drop (placeOf f (mapOf s) + sizeIn f (mapOf s)) s
-  field-read b f = rw (map-read b) (go (bitOf f (mapOf s)) refl)
+  field-read : Bytes s → (f : Field) → drop (placeOf f m) s ≡ fieldBytes f r ++ drop (placeOf f m + sizeIn f m) s
+  field-read b f = rw (map-read b) (go (bitOf f m) refl)
     where
-      go : (a : Bool) → bitOf f (mapOf s) ≡ a → drop (placeOf f (mapOf s)) s ≡ cond a (bytesOf (widthOf f) (valueOf f (rowFrom s))) [] ++ drop (placeOf f (mapOf s) + cond a (widthOf f) 0) s
-      go true e = rw (stated f s e) (bytes-at (widthOf f) s (placeOf f (mapOf s)) b (leb-true _ _ (x .field f .inside e)))
-      go false e = rw (add-zero (placeOf f (mapOf s))) refl
+      go : (a : Bool) → bitOf f m ≡ a → drop (placeOf f m) s ≡ cond a (bytesOf (widthOf f) (valueOf f r)) [] ++ drop (placeOf f m + cond a (widthOf f) 0) s
+      go true e = rw (stated f e) (bytes-at (widthOf f) s (placeOf f m) b (leb-true _ _ (x .inside f e)))
+      go false e = rw (add-zero (placeOf f m)) refl
+
+  then : Bytes s → (f : Field) {q : List ℕ} → drop (placeOf f m + sizeIn f m) s ≡ q → drop (placeOf f m) s ≡ fieldBytes f r ++ q
+  then b f e = field-read b f ∙ ap (λ l. fieldBytes f r ++ l) e
 
 pub row-of : (s : List ℕ) → Bytes s → RowRead s → RowOf s
 row-of [] b x = absurd (omega (arith, x .long))
@@ -199,9 +307,8 @@ row-of (m ∷ p) b x =
     let s = m ∷ p in
     let r = rowFrom s in
     let end = drop (rowSize m) s in
-    let all : p ≡ fieldBytes Payload r ++ (fieldBytes Period r ++ (fieldBytes Deadline r ++ end)) =
-    field-read s x b Payload ∙ ap (λ q. fieldBytes Payload r ++ q) (field-read s x b Period ∙ ap (λ q. fieldBytes Period r ++ q) (field-read s x b Deadline)) in
+    let all : p ≡ fieldBytes Payload r ++ after r end Payload = then s x b Payload (then s x b Period (then s x b Deadline (then s x b Rate (then s x b Samples refl)))) in
     record {
-      bytes = ap (λ q. m ∷ q) all ∙ ap (λ q. q ∷ fieldBytes Payload r ++ (fieldBytes Period r ++ (fieldBytes Deadline r ++ end))) (sym (map-read s x b)) ∙ sym (spread-out r end);
+      bytes = ap (λ q. m ∷ q) all ∙ ap (λ q. q ∷ fieldBytes Payload r ++ after r end Payload) (sym (map-read s x b)) ∙ sym (spread-out r end);
       range = in-range s x;
     }

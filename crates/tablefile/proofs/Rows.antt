@@ -1,30 +1,26 @@
 -- A row's checks, taken apart: what an accepted row says of its bytes.
 use Prim.Native.Nat.{ℕ, _+_, _≤_}
-use mathlib.Core.Bool.{Bool, true, false, not}
+use mathlib.Core.Bool.{Bool, true, false, not, false≢true}
 use mathlib.Core.List.{List, [], _∷_, _++_}
-use mathlib.Core.Path.{_≡_, refl}
+use mathlib.Core.Path.{_≡_, refl, sym, _∙_}
 use native.Mathlib.Omega.{arith}
 use lib.Dec.{leb, eqb}
 use lib.ListN.{length}
-use borrow.Author.Tests.{eqb-true, eq-eqb, leb-true, le-leb}
-use Rattle.table.specs.Checks.{Outcome, accepted, refused, unless, first}
-use Rattle.tablefile.specs.Layout.{Field, Payload, Period, Deadline, valueOf, widthOf, defaultOf, bitOf, bits3to6, sizeIn, placeOf, rowSize}
-use Rattle.tablefile.specs.Reading.{mapOf, rowFrom, fine, asked, fieldTests, fieldChecks, rowChecks, row}
+use borrow.Author.Tests.{eqb-true, eq-eqb, leb-true, le-leb, not-true}
+use Rattle.table.specs.declared.Class.{Class}
+use Rattle.table.specs.declared.Class.the-variants.{A, B}
+use Rattle.table.specs.Checks.{Outcome, accepted, refused, first}
+use Rattle.table.specs.Ranges.{periodOk, paceOk}
+use Rattle.tablefile.specs.Layout.{Field, Payload, Period, Deadline, Rate, Samples, widthOf, periodFor, defaultPeriod, usual, bitOf, bits4to6, twoPaces, classOf, sizeIn, placeOf, rowSize}
+use Rattle.tablefile.specs.Reading.{mapOf, pacedFrom, rowFrom, fine, presence, present, judgement, judged, fieldChecks, rowChecks, row}
 use Rattle.table.proofs.Laws as law
+use Rattle.tablefile.proofs.Sizes.{bit-shared}
 
 -- ---- lists of checks
 pub accept-first : (xs : List Outcome) → law.Accept xs → first xs ≡ accepted
 accept-first [] a = refl
 accept-first (accepted ∷ xs) a = accept-first xs (a .1)
 accept-first (refused n p ∷ xs) a = law.never (a .0)
-
-accept-join : (xs ys : List Outcome) → law.Accept xs → law.Accept ys → law.Accept (xs ++ ys)
-accept-join [] ys a b = b
-accept-join (x ∷ xs) ys a b = (a .0, accept-join xs ys (a .1) b)
-
-accept-split : (xs ys : List Outcome) → law.Accept (xs ++ ys) → law.Accept xs × law.Accept ys
-accept-split [] ys a = (tt, a)
-accept-split (x ∷ xs) ys a = let b = accept-split xs ys (a .1) in ((a .0, b .0), b .1)
 
 -- what the first of two lists says, and the second where that accepts
 abbrev pub orElse : Outcome → Outcome → Outcome
@@ -37,73 +33,113 @@ first-join (accepted ∷ xs) ys = first-join xs ys
 first-join (refused n p ∷ xs) ys = refl
 
 -- ---- a field's checks
-pub record FieldOk (stands ends range usual : Bool) : Type 0 where
-  pub inside : stands ≡ true → ends ≡ true
-  pub ok : stands ≡ true → range ≡ true
-  pub other : stands ≡ true → usual ≡ false
+present-passes : (stands inside : Bool) (place : ℕ) → presence stands inside place ≡ accepted → stands ≡ true → inside ≡ true
+present-passes true inside place e h = law.unless-passes inside 1 place e
+present-passes false inside place e h = absurd (false≢true h)
 
-asked-passes : (stands test : Bool) (n p : ℕ) → asked stands (unless test n p) ≡ accepted → stands ≡ true → test ≡ true
-asked-passes true test n p e h = law.unless-passes test n p e
-asked-passes false test n p e h = let z : _≡_ {A = ℕ} 0 1 = cc in absurd (omega arith)
+present-accepts : (stands inside : Bool) (place : ℕ) → (stands ≡ true → inside ≡ true) → presence stands inside place ≡ accepted
+present-accepts true inside place h = rw (h refl) refl
+present-accepts false inside place h = refl
 
-asked-accepts : (stands test : Bool) (n p : ℕ) → (stands ≡ true → test ≡ true) → asked stands (unless test n p) ≡ accepted
-asked-accepts true test n p h = rw (h refl) refl
-asked-accepts false test n p h = refl
+-- a field that was judged and let pass: in range, and not at its default
+pub record Judged (range usual : Bool) : Type 0 where
+  pub ok : range ≡ true
+  pub other : usual ≡ false
 
-not-false : (b : Bool) → not b ≡ true → b ≡ false
-not-false true e = let z : _≡_ {A = ℕ} 0 1 = cc in absurd (omega arith)
-not-false false e = refl
+judged-passes : (stands ok usual : Bool) (place : ℕ) → judgement stands ok usual place ≡ accepted → stands ≡ true → Judged ok usual
+judged-passes true true false place e h = record { ok = refl; other = refl }
+judged-passes true true true place e h = law.never e
+judged-passes true false usual place e h = law.never e
+judged-passes false ok usual place e h = absurd (false≢true h)
 
-field-if : (stands inside ok usual : Bool) (place : ℕ) → law.Accept (fieldTests stands inside ok usual place) → FieldOk stands inside ok usual
-field-if stands inside ok usual place a =
-    record {
-      inside = asked-passes stands inside 1 place (a .0);
-      ok = asked-passes stands ok 5 place (a .1 .0);
-      other = λ h. not-false usual (asked-passes stands (not usual) 6 place (a .1 .1 .0) h);
-    }
-
-field-only-if : (stands inside ok usual : Bool) (place : ℕ) → FieldOk stands inside ok usual → law.Accept (fieldTests stands inside ok usual place)
-field-only-if stands inside ok usual place h =
-    (asked-accepts stands inside 1 place (h .inside), (asked-accepts stands ok 5 place (h .ok), (asked-accepts stands (not usual) 6 place (λ e. rw (h .other e) refl), tt)))
+judged-accepts : (stands ok usual : Bool) (place : ℕ) → (stands ≡ true → Judged ok usual) → judgement stands ok usual place ≡ accepted
+judged-accepts true ok usual place h = rw (h refl .ok, h refl .other) refl
+judged-accepts false ok usual place h = refl
 
 -- ---- a row's checks
-abbrev pub FieldRead : Field → List ℕ → Type 0
-FieldRead f s = FieldOk (bitOf f (mapOf s)) (leb (placeOf f (mapOf s) + widthOf f) (length s)) (fine f (rowFrom s)) (eqb (valueOf f (rowFrom s)) (defaultOf f (rowFrom s)))
+abbrev pub Inside : Field → List ℕ → Type 0
+Inside f s = bitOf f (mapOf s) ≡ true → leb (placeOf f (mapOf s) + widthOf f) (length s) ≡ true
 
-pub field-read : (f : Field) (s : List ℕ) (at : ℕ) → first (fieldChecks f s at) ≡ accepted → FieldRead f s
-field-read f s at e = field-if _ _ _ _ (at + placeOf f (mapOf s)) (law.all-accept (fieldChecks f s at) e)
+abbrev pub Fits : Field → List ℕ → Type 0
+Fits f s = bitOf f (mapOf s) ≡ true → Judged (fine f (rowFrom s)) (usual f (rowFrom s))
 
 pub record RowRead (s : List ℕ) : Type 0 where
   pub long : 1 ≤ length s
-  pub bits : bits3to6 (mapOf s) ≡ 0
-  pub field : (f : Field) → FieldRead f s
+  pub bits : bits4to6 (mapOf s) ≡ 0
+  pub one : twoPaces (mapOf s) ≡ false
+  pub inside : (f : Field) → Inside f s
+  pub fit : (f : Field) → Fits f s
 
-pub row-if : (s : List ℕ) (at : ℕ) → row s at ≡ accepted → RowRead s
-unfolding row
-row-if s at e =
-    let a = law.all-accept (rowChecks s at) e in
-    let last = accept-split (fieldChecks Payload s at ++ fieldChecks Period s at) (fieldChecks Deadline s at) (a .1 .1) in
-    let before = accept-split (fieldChecks Payload s at) (fieldChecks Period s at) (last .0) in
-    record {
-      long = leb-true 1 (length s) (law.unless-passes (leb 1 (length s)) 1 at (a .0));
-      bits = eqb-true (bits3to6 (mapOf s)) 0 (law.unless-passes (eqb (bits3to6 (mapOf s)) 0) 4 at (a .1 .0));
-      field = by-field (before .0) (before .1) (last .1);
-    }
+module _ (s : List ℕ) (at : ℕ) where
+  passes : (f : Field) → judged f s at ≡ accepted → Fits f s
+  passes f e h = judged-passes (bitOf f (mapOf s)) (fine f (rowFrom s)) (usual f (rowFrom s)) (at + placeOf f (mapOf s)) e h
+
+  stands-inside : (f : Field) → present f s at ≡ accepted → Inside f s
+  stands-inside f e h = present-passes (bitOf f (mapOf s)) (leb (placeOf f (mapOf s) + widthOf f) (length s)) (at + placeOf f (mapOf s)) e h
+
+  accepts : (f : Field) → Fits f s → judged f s at ≡ accepted
+  accepts f h = judged-accepts (bitOf f (mapOf s)) (fine f (rowFrom s)) (usual f (rowFrom s)) (at + placeOf f (mapOf s)) h
+
+  is-present : (f : Field) → Inside f s → present f s at ≡ accepted
+  is-present f h = present-accepts (bitOf f (mapOf s)) (leb (placeOf f (mapOf s) + widthOf f) (length s)) (at + placeOf f (mapOf s)) h
+
+  abbrev Both : Field → Type 0
+  Both f = Inside f s × Fits f s
+
+  pub row-if : row s at ≡ accepted → RowRead s
+  unfolding row
+  row-if e =
+      let a = law.all-accept (rowChecks s at) e in
+      let payload = a .1 .1 .1 in
+      let period = payload .1 .1 in
+      let deadline = period .1 .1 in
+      let rate = deadline .1 in
+      let samples = rate .1 .1 in
+      let each =
+      by-field (stands-inside Payload (payload .0), passes Payload (payload .1 .0)) (stands-inside Period (period .0), passes Period (period .1 .0))
+      (stands-inside Deadline (deadline .0), passes Deadline (samples .1 .1 .0)) (stands-inside Rate (rate .0), passes Rate (rate .1 .0)) (stands-inside Samples (samples .0), passes Samples (samples .1 .0)) in
+      record {
+        long = leb-true 1 (length s) (law.unless-passes (leb 1 (length s)) 1 at (a .0));
+        bits = eqb-true (bits4to6 (mapOf s)) 0 (law.unless-passes (eqb (bits4to6 (mapOf s)) 0) 4 at (a .1 .0));
+        one = not-true (twoPaces (mapOf s)) (law.unless-passes (not (twoPaces (mapOf s))) 19 at (a .1 .1 .0));
+        inside = λ f. each f .0;
+        fit = λ f. each f .1;
+      }
+    where
+      by-field : Both Payload → Both Period → Both Deadline → Both Rate → Both Samples → (f : Field) → Both f
+      by-field p q d r n Payload = p
+      by-field p q d r n Period = q
+      by-field p q d r n Deadline = d
+      by-field p q d r n Rate = r
+      by-field p q d r n Samples = n
+
+  field-then : RowRead s → (f : Field) {X : Type 0} → X → (present f s at ≡ accepted) × ((judged f s at ≡ accepted) × X)
+  field-then r f rest = (is-present f (r .inside f), (accepts f (r .fit f), rest))
+
+  pub row-only-if : RowRead s → row s at ≡ accepted
+  unfolding row
+  row-only-if r =
+      let deadline : law.Accept (judged Deadline s at ∷ []) = (accepts Deadline (r .fit Deadline), tt) in
+      let rated : (present Deadline s at ≡ accepted) × law.Accept (fieldChecks Rate s at ++ fieldChecks Samples s at ++ judged Deadline s at ∷ []) = (is-present Deadline (r .inside Deadline), field-then r Rate (field-then r Samples deadline)) in
+      accept-first (rowChecks s at)
+      (rw (le-leb 1 (length s) (r .long)) refl, (rw (eq-eqb (bits4to6 (mapOf s)) 0 (r .bits)) refl, (rw (r .one) refl, field-then r Payload (field-then r Period rated))))
+
+-- ---- a pace that reads is in range: a stated one was judged, and a class's own period is
+own-period : (c : Class) → periodOk (periodFor c) ≡ true
+own-period A = refl
+own-period B = refl
+
+pub pace-in-range : (s : List ℕ) → RowRead s → paceOk (pacedFrom s .pace) ≡ true
+unfolding pacedFrom rowFrom paceOk defaultPeriod
+pace-in-range s x = by-rate (bitOf Rate (mapOf s)) refl (bitOf Period (mapOf s)) refl
   where
-    by-field : law.Accept (fieldChecks Payload s at) → law.Accept (fieldChecks Period s at) → law.Accept (fieldChecks Deadline s at) → (f : Field) → FieldRead f s
-    by-field a b d Payload = field-if _ _ _ _ (at + placeOf Payload (mapOf s)) a
-    by-field a b d Period = field-if _ _ _ _ (at + placeOf Period (mapOf s)) b
-    by-field a b d Deadline = field-if _ _ _ _ (at + placeOf Deadline (mapOf s)) d
-
-pub row-only-if : (s : List ℕ) (at : ℕ) → RowRead s → row s at ≡ accepted
-unfolding row
-row-only-if s at r =
-    let one : (f : Field) → law.Accept (fieldChecks f s at) = λ f. field-only-if _ _ _ _ (at + placeOf f (mapOf s)) (r .field f) in
-    let three = accept-join (fieldChecks Payload s at ++ fieldChecks Period s at) (fieldChecks Deadline s at) (accept-join (fieldChecks Payload s at) (fieldChecks Period s at) (one Payload) (one Period)) (one Deadline) in
-    rw (le-leb 1 (length s) (r .long), eq-eqb (bits3to6 (mapOf s)) 0 (r .bits)) (accept-first (fieldChecks Payload s at ++ fieldChecks Period s at ++ fieldChecks Deadline s at) three)
+    by-rate : (b : Bool) → bitOf Rate (mapOf s) ≡ b → (c : Bool) → bitOf Period (mapOf s) ≡ c → paceOk (pacedFrom s .pace) ≡ true
+    by-rate true e c f = rw (e, (rw e at (x .fit Rate e .ok)), (rw e at (x .fit Samples (sym (bit-shared (mapOf s)) ∙ e) .ok))) refl
+    by-rate false e true f = rw (e, f) (rw (e, f) at (x .fit Period f .ok))
+    by-rate false e false f = rw (e, f) (own-period (classOf (mapOf s)))
 
 -- ---- a row that reads stands within its part of the file
-pub field-inside : (f : Field) (m n : ℕ) → placeOf f m ≤ n → (bitOf f m ≡ true → leb (placeOf f m + widthOf f) n ≡ true) → placeOf f m + sizeIn f m ≤ n
+field-inside : (f : Field) (m n : ℕ) → placeOf f m ≤ n → (bitOf f m ≡ true → leb (placeOf f m + widthOf f) n ≡ true) → placeOf f m + sizeIn f m ≤ n
 field-inside f m n h g = go (bitOf f m) refl
   where
     go : (b : Bool) → bitOf f m ≡ b → placeOf f m + sizeIn f m ≤ n
@@ -112,6 +148,5 @@ field-inside f m n h g = go (bitOf f m) refl
 
 pub row-inside : (s : List ℕ) → RowRead s → rowSize (mapOf s) ≤ length s
 row-inside s r =
-    let one = field-inside Payload (mapOf s) (length s) (r .long) (r .field Payload .inside) in
-    let two = field-inside Period (mapOf s) (length s) one (r .field Period .inside) in
-    field-inside Deadline (mapOf s) (length s) two (r .field Deadline .inside)
+    let next : (f : Field) → placeOf f (mapOf s) ≤ length s → placeOf f (mapOf s) + sizeIn f (mapOf s) ≤ length s = λ f h. field-inside f (mapOf s) (length s) h (r .inside f) in
+    next Samples (next Rate (next Deadline (next Period (next Payload (r .long)))))

@@ -11,7 +11,7 @@ use Rattle.table.specs.declared.Verdict.the-variants as verdicts
 use Rattle.table.specs.Checks as tables
 use Rattle.table.specs.Checks.{Outcome, accepted, refused}
 use Rattle.table.proofs.Laws as law
-use Rattle.tablefile.specs.declared.Fault.the-variants.{CutShort, Letters, RowCount, MapBit, OutOfRange, StatesDefault, Trailing}
+use Rattle.tablefile.specs.declared.Fault.the-variants.{CutShort, Letters, RowCount, MapBit, OutOfRange, StatesDefault, Trailing, TwoPaces}
 use Rattle.tablefile.specs.declared.Reading.{Reading}
 use Rattle.tablefile.specs.declared.Reading.the-variants.{Whole, Refused}
 use Rattle.tablefile.specs.declared.Writing.{Writing}
@@ -22,7 +22,7 @@ use Rattle.tablefile.specs.RoundTrip.{SameReading, SameWriting}
 abbrev readingBy : Outcome → Reading
 readingBy accepted = Whole
 readingBy (refused n p) =
-    Refused (cond (eqb n 1) CutShort (cond (eqb n 2) Letters (cond (eqb n 3) RowCount (cond (eqb n 4) MapBit (cond (eqb n 5) OutOfRange (cond (eqb n 6) StatesDefault Trailing)))))) p
+    Refused (cond (eqb n 1) CutShort (cond (eqb n 2) Letters (cond (eqb n 3) RowCount (cond (eqb n 4) MapBit (cond (eqb n 5) OutOfRange (cond (eqb n 6) StatesDefault (cond (eqb n 7) Trailing TwoPaces))))))) p
 
 answered : (a : Reading) → readingBy (outcomeOf a) ≡ a
 answered Whole = refl
@@ -33,6 +33,7 @@ answered (Refused MapBit p) = refl
 answered (Refused OutOfRange p) = refl
 answered (Refused StatesDefault p) = refl
 answered (Refused Trailing p) = refl
+answered (Refused TwoPaces p) = refl
 
 pub same-reading : SameReading
 same-reading a b e = sym (answered a) ∙ ap readingBy e ∙ answered b

@@ -1,5 +1,5 @@
 -- How many bytes a field and a row take, by the map byte's bits.
-use Prim.Native.Nat.{ℕ, zero, suc, _/_, _%_}
+use Prim.Native.Nat.{ℕ, zero, suc, _+_, _/_, _%_}
 use mathlib.Core.Bool.{Bool, true, false, cond}
 use mathlib.Core.List.{[], _∷_}
 use mathlib.Core.Path.{_≡_, refl, sym, _∙_}
@@ -7,15 +7,17 @@ use native.Mathlib.Numerals.{add-one}
 use native.Mathlib.Omega.{arith}
 use lib.ListN.{length, length-append}
 use Rattle.table.specs.declared.Row.{Row}
-use Rattle.tablefile.specs.Layout.{bytesOf, Field, Payload, Period, Deadline, valueOf, widthOf, bitOf, sizeIn, rowSize}
+use Rattle.tablefile.specs.Layout.{bytesOf, Field, Payload, Period, Deadline, Rate, Samples, valueOf, widthOf, bitOf, sizeIn, placeOf, rowSize}
 use Rattle.tablefile.specs.Writing.{mapByte, fieldBytes, rowBytes}
 
-module _ (f : Field) (m : ℕ) {b : Bool} (e : b ≡ bitOf f m) where
-  pub size-stated : b ≡ true → sizeIn f m ≡ widthOf f
-  size-stated h = rw (sym e ∙ h) refl
+-- rate and samples share a bit
+pub bit-shared : (m : ℕ) → bitOf Rate m ≡ bitOf Samples m
+unfolding bitOf
+bit-shared m = refl
 
-  pub size-unstated : b ≡ false → sizeIn f m ≡ 0
-  size-unstated h = rw (sym e ∙ h) refl
+-- a field takes its bytes behind its place where its bit stands
+pub behind-field : (f : Field) (m : ℕ) {b : Bool} {at r : ℕ} → b ≡ bitOf f m → at ≡ placeOf f m → r ≡ at + cond b (widthOf f) 0 → r ≡ placeOf f m + sizeIn f m
+behind-field f m e p h = rw (h, e, p) refl
 
 pub bytes-length : (n v : ℕ) → length (bytesOf n v) ≡ n
 unfolding bytesOf
@@ -32,4 +34,4 @@ field-size f r = go (bitOf f (mapByte r))
 pub row-length : (r : Row) → length (rowBytes r) ≡ rowSize (mapByte r)
 unfolding rowBytes
 row-length r =
-    simp length-append (omega (arith, field-size Payload r, field-size Period r, field-size Deadline r))
+    simp length-append (omega (arith, field-size Payload r, field-size Period r, field-size Deadline r, field-size Rate r, field-size Samples r))

@@ -7,9 +7,9 @@ use Rattle.table.specs.Limits.{mostRows}
 use Rattle.tablefile.specs.Layout.{headerSize}
 use Rattle.tablefile.specs.Reading.{readFile}
 
--- A row takes at most 11 bytes: its map and all its fields. So a file has at most 367.
+-- A row takes at most 12 bytes: its map, payload, deadline, rate and samples. So a file has at most 399.
 abbrev pub mostRow : ℕ
-mostRow = 11
+mostRow = 12
 
 abbrev pub mostFile : ℕ
 mostFile = headerSize + mostRows * mostRow

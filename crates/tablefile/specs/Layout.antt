@@ -1,11 +1,13 @@
 -- The layout of a table file, in the terms that reader and writer share.
 use Prim.Native.Nat.{ℕ, zero, suc, _+_, _*_, _/_, _%_}
-use mathlib.Core.Bool.{Bool, true, false, cond}
+use mathlib.Core.Bool.{Bool, true, false, not, cond, _&&_}
 use mathlib.Core.List.{List, [], _∷_, _++_}
 use lib.Dec.{leb, eqb}
 use lib.ListN.{getD}
 use Rattle.table.specs.declared.Class.{Class}
 use Rattle.table.specs.declared.Class.the-variants.{A, B}
+use Rattle.table.specs.declared.Pace.{Pace}
+use Rattle.table.specs.declared.Pace.the-variants as paces
 use Rattle.table.specs.declared.Row.{Row}
 use Rattle.table.specs.Wire.{periodOf}
 
@@ -38,47 +40,99 @@ unfoldable pub bytesOf : (width : ℕ) → ℕ → List ℕ
 bytesOf zero v = []
 bytesOf (suc n) v = bytesOf n (v / 256) ++ v % 256 ∷ []
 
--- The fields of a row, in bit order.
+-- The fields of a row, in bit order. Rate and samples share a bit.
 pub data Field : Type 0 where
   Payload : Field
   Period : Field
   Deadline : Field
+  Rate : Field
+  Samples : Field
+
+-- What a row says in a field. A row with a period has no rate and no samples, and one with a rate states no period: 0 stands for what it does not say.
+abbrev pub rated : Pace → Bool
+rated (paces.Period p) = false
+rated (paces.Rated samples rate) = true
+
+abbrev pub statedOf : Pace → ℕ
+statedOf (paces.Period p) = p
+statedOf (paces.Rated samples rate) = 0
+
+abbrev pub rateOf : Pace → ℕ
+rateOf (paces.Period p) = 0
+rateOf (paces.Rated samples rate) = rate
+
+abbrev pub samplesOf : Pace → ℕ
+samplesOf (paces.Period p) = 0
+samplesOf (paces.Rated samples rate) = samples
 
 abbrev pub valueOf : Field → Row → ℕ
 valueOf Payload r = r .payload
-valueOf Period r = r .period
+valueOf Period r = statedOf (r .pace)
 valueOf Deadline r = r .deadline
+valueOf Rate r = rateOf (r .pace)
+valueOf Samples r = samplesOf (r .pace)
 
--- Payload u16, period u32, deadline u32.
+-- Payload u16, period u32, deadline u32, rate u32, samples u8.
 abbrev pub widthOf : Field → ℕ
 widthOf Payload = 2
 widthOf Period = 4
 widthOf Deadline = 4
+widthOf Rate = 4
+widthOf Samples = 1
 
 -- Defaults: payload 42; period 15,625 for A, 31,250 for B; deadline the row's period.
+unfoldable pub defaultPayload : Row → ℕ
+defaultPayload r = 42
+
 abbrev pub periodFor : Class → ℕ
 periodFor A = 15625
 periodFor B = 31250
 
-unfoldable pub defaultOf : Field → Row → ℕ
-defaultOf Payload r = 42
-defaultOf Period r = periodFor (r .class)
-defaultOf Deadline r = periodOf r
+unfoldable pub defaultPeriod : Row → ℕ
+defaultPeriod r = periodFor (r .class)
 
--- The map byte: bit 0 payload, bit 1 period, bit 2 deadline, bit 7 set for class B. Bits 3 to 6 are reserved: they stand for nothing, and are 0.
+unfoldable pub defaultDeadline : Row → ℕ
+defaultDeadline r = periodOf r
+
+-- A field at its default. Rate and samples have none.
+abbrev pub usual : Field → Row → Bool
+usual Payload r = eqb (r .payload) (defaultPayload r)
+usual Period r = eqb (statedOf (r .pace)) (defaultPeriod r)
+usual Deadline r = eqb (r .deadline) (defaultDeadline r)
+usual Rate r = false
+usual Samples r = false
+
+-- The fields that a row's file states: those that are not at their default; a period only of a row that has one, rate and samples only of a rated row.
+abbrev pub carries : Field → Pace → Bool
+carries Payload p = true
+carries Period p = not (rated p)
+carries Deadline p = true
+carries Rate p = rated p
+carries Samples p = rated p
+
+abbrev pub states : Field → Row → Bool
+states f r = carries f (r .pace) && not (usual f r)
+
+-- The map byte: bit 0 payload, bit 1 period, bit 2 deadline, bit 3 rate and samples, bit 7 set for class B. Bits 4 to 6 are reserved: they stand for nothing, and are 0.
 abbrev pub weightOf : Field → ℕ
 weightOf Payload = 1
 weightOf Period = 2
 weightOf Deadline = 4
+weightOf Rate = 8
+weightOf Samples = 8
 
 unfoldable pub bitOf : Field → ℕ → Bool
 bitOf f m = eqb (m / weightOf f % 2) 1
 
-abbrev pub bits3to6 : ℕ → ℕ
-bits3to6 m = m / 8 % 16
+abbrev pub bits4to6 : ℕ → ℕ
+bits4to6 m = m / 16 % 8
 
 abbrev pub reservedClear : ℕ → Bool
-reservedClear m = eqb (bits3to6 m) 0
+reservedClear m = eqb (bits4to6 m) 0
+
+-- Bit 3 stands in place of bit 1, never beside it.
+abbrev pub twoPaces : ℕ → Bool
+twoPaces m = bitOf Period m && bitOf Rate m
 
 abbrev pub classWeight : ℕ
 classWeight = 128
@@ -102,6 +156,8 @@ abbrev pub placeOf : Field → ℕ → ℕ
 placeOf Payload m = 1
 placeOf Period m = 1 + sizeIn Payload m
 placeOf Deadline m = 1 + sizeIn Payload m + sizeIn Period m
+placeOf Rate m = 1 + sizeIn Payload m + sizeIn Period m + sizeIn Deadline m
+placeOf Samples m = 1 + sizeIn Payload m + sizeIn Period m + sizeIn Deadline m + sizeIn Rate m
 
 abbrev pub rowSize : ℕ → ℕ
-rowSize m = placeOf Deadline m + sizeIn Deadline m
+rowSize m = placeOf Samples m + sizeIn Samples m

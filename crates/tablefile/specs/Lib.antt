@@ -1,4 +1,4 @@
--- What the table file's calls mean: document 01's layout, reading and writing.
+-- What the table file's calls mean: the documents' layout, reading and writing.
 pub mod Layout
 pub mod Reading
 pub mod Writing

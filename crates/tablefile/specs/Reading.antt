@@ -1,23 +1,26 @@
--- What a list of bytes reads as: a table, or the first refusal in file order with its place.
+-- What a list of bytes reads as: a table, or the first refusal with its place. Checks are in file order, but for the deadline's range and default.
 use Prim.Native.Nat.{ℕ, zero, suc, _+_, _-_}
 use mathlib.Core.Bool.{Bool, true, false, not, cond, _&&_}
 use mathlib.Core.List.{List, [], _∷_, _++_}
 use mathlib.Core.Path.{_≡_}
 use lib.Dec.{leb, eqb}
 use lib.ListN.{length, getD, drop, replicate}
+use Rattle.table.specs.declared.Class.{Class}
+use Rattle.table.specs.declared.Pace.{Pace}
+use Rattle.table.specs.declared.Pace.the-variants as paces
 use Rattle.table.specs.declared.Row.{Row}
 use Rattle.table.specs.declared.Header.{Header}
 use Rattle.table.specs.declared.Table.{Table}
-use Rattle.table.specs.Limits.{mostRows, mostSlope, mostPayload, leastPeriod, mostPeriod}
-use Rattle.table.specs.Wire.{periodOf}
+use Rattle.table.specs.Limits.{mostRows, mostSlope, mostPayload}
 use Rattle.table.specs.Rows.{noRow}
 use Rattle.table.specs.Checks.{Outcome, accepted, refused, unless, first}
+use Rattle.table.specs.Ranges.{periodOk, rateOk, samplesOk, deadlineOk}
 use Rattle.tablefile.specs.declared.Fault.{Fault}
-use Rattle.tablefile.specs.declared.Fault.the-variants.{CutShort, Letters, RowCount, MapBit, OutOfRange, StatesDefault, Trailing}
+use Rattle.tablefile.specs.declared.Fault.the-variants.{CutShort, Letters, RowCount, MapBit, OutOfRange, StatesDefault, Trailing, TwoPaces}
 use Rattle.tablefile.specs.declared.Reading.{Reading}
 use Rattle.tablefile.specs.declared.Reading.the-variants.{Whole, Refused}
 use Rattle.tablefile.specs.declared.Loaded.{Loaded}
-use Rattle.tablefile.specs.Layout.{letters, headerSize, idleaPlace, idlebPlace, bestPlace, countPlace, valueAt, Field, Payload, Period, Deadline, valueOf, widthOf, defaultOf, bitOf, reservedClear, classOf, placeOf, rowSize}
+use Rattle.tablefile.specs.Layout.{letters, headerSize, idleaPlace, idlebPlace, bestPlace, countPlace, valueAt, Field, Payload, Period, Deadline, Rate, Samples, valueOf, widthOf, defaultPayload, defaultPeriod, defaultDeadline, usual, bitOf, reservedClear, twoPaces, classOf, placeOf, rowSize}
 
 -- The number of each case of the fault enum.
 abbrev pub numberOf : Fault → ℕ
@@ -28,6 +31,7 @@ numberOf MapBit = 4
 numberOf OutOfRange = 5
 numberOf StatesDefault = 6
 numberOf Trailing = 7
+numberOf TwoPaces = 19
 
 -- The outcome that each case of the answer enum stands for.
 abbrev pub outcomeOf : Reading → Outcome
@@ -62,45 +66,87 @@ header s = first (headerChecks s)
 abbrev pub mapOf : List ℕ → ℕ
 mapOf s = getD s 0 0
 
-abbrev pub withValue : Field → Row → ℕ → Row
-withValue Payload r v = record { class = r .class; payload = v; period = r .period; deadline = r .deadline }
-withValue Period r v = record { class = r .class; payload = r .payload; period = v; deadline = r .deadline }
-withValue Deadline r v = record { class = r .class; payload = r .payload; period = r .period; deadline = v }
+-- The number that stands at a field's place.
+abbrev pub numberIn : Field → List ℕ → ℕ
+numberIn f s = valueAt (widthOf f) s (placeOf f (mapOf s))
 
 -- A field is what its bytes say where its bit stands, and else its default in the row before it.
-abbrev pub withField : Field → List ℕ → Row → Row
-withField f s r = withValue f r (cond (bitOf f (mapOf s)) (valueAt (widthOf f) s (placeOf f (mapOf s))) (defaultOf f r))
+abbrev pub said : Field → List ℕ → ℕ → ℕ
+said f s default = cond (bitOf f (mapOf s)) (numberIn f s) default
+
+-- A row before its first field.
+abbrev pub blank : Class → Row
+blank c = record { class = c; payload = 0; pace = paces.Period 0; deadline = 0 }
+
+abbrev pub withPayload : List ℕ → Row → Row
+withPayload s r = record { class = r .class; payload = said Payload s (defaultPayload r); pace = r .pace; deadline = r .deadline }
+
+-- The table remembers which way the period was given: by bit 3 a rate and samples, and else a period.
+abbrev pub paceFrom : List ℕ → Row → Pace
+paceFrom s r = cond (bitOf Rate (mapOf s)) (paces.Rated (numberIn Samples s) (numberIn Rate s)) (paces.Period (said Period s (defaultPeriod r)))
+
+abbrev pub withPace : List ℕ → Row → Row
+withPace s r = record { class = r .class; payload = r .payload; pace = paceFrom s r; deadline = r .deadline }
+
+abbrev pub withDeadline : List ℕ → Row → Row
+withDeadline s r = record { class = r .class; payload = r .payload; pace = r .pace; deadline = said Deadline s (defaultDeadline r) }
+
+-- A row but for its deadline, whose default goes by the pace; and the row.
+unfoldable pub pacedFrom : List ℕ → Row
+pacedFrom s = withPace s (withPayload s (blank (classOf (mapOf s))))
 
 unfoldable pub rowFrom : List ℕ → Row
-rowFrom s = withField Deadline s (withField Period s (withField Payload s (record { class = classOf (mapOf s); payload = 0; period = 0; deadline = 0 })))
+rowFrom s = withDeadline s (pacedFrom s)
 
--- A field's values: payload 0 to 1500, period 84 to 1,000,000,000 byte-times, deadline 1 to the period.
+-- A field's values: payload 0 to 1500, period 84 to 1,000,000,000 byte-times, deadline 1 to the period, rate 1,000 to 200,000 Hz, samples 1 to 255.
 abbrev pub fine : Field → Row → Bool
-fine Payload r = leb (r .payload) mostPayload
-fine Period r = leb leastPeriod (periodOf r) && leb (periodOf r) mostPeriod
-fine Deadline r = leb 1 (r .deadline) && leb (r .deadline) (periodOf r)
+fine Payload r = leb (valueOf Payload r) mostPayload
+fine Period r = periodOk (valueOf Period r)
+fine Deadline r = deadlineOk r
+fine Rate r = rateOk (valueOf Rate r)
+fine Samples r = samplesOk (valueOf Samples r)
 
 -- Only a field whose bit stands is asked for.
 abbrev pub asked : Bool → Outcome → Outcome
 asked true o = o
 asked false o = accepted
 
--- 1, the file ends inside the field; 5, out of range; 6, a field stating its default. The place is the field's first byte.
+-- 1, the file ends inside the field. The place is the field's first byte.
+abbrev pub presence : (stands inside : Bool) → ℕ → Outcome
+presence stands inside place = asked stands (unless inside 1 place)
+
+abbrev pub present : Field → List ℕ → ℕ → Outcome
+present f s at = presence (bitOf f (mapOf s)) (leb (placeOf f (mapOf s) + widthOf f) (length s)) (at + placeOf f (mapOf s))
+
+-- 5, out of range; 6, a field stating its default. The place again is the field's first byte.
+abbrev pub judgement : (stands ok usual : Bool) → ℕ → Outcome
+judgement stands ok usual place = asked stands (first (unless ok 5 place ∷ unless (not usual) 6 place ∷ []))
+
+abbrev pub judged : Field → List ℕ → ℕ → Outcome
+judged f s at = judgement (bitOf f (mapOf s)) (fine f (rowFrom s)) (usual f (rowFrom s)) (at + placeOf f (mapOf s))
+
+-- A field: its bytes are there, and then what they say.
 abbrev pub fieldTests : (stands inside ok usual : Bool) → ℕ → List Outcome
-fieldTests stands inside ok usual place = asked stands (unless inside 1 place) ∷ asked stands (unless ok 5 place) ∷ asked stands (unless (not usual) 6 place) ∷ []
+fieldTests stands inside ok usual place = presence stands inside place ∷ judgement stands ok usual place ∷ []
 
 abbrev pub fieldChecks : Field → List ℕ → ℕ → List Outcome
-fieldChecks f s at =
-    fieldTests (bitOf f (mapOf s)) (leb (placeOf f (mapOf s) + widthOf f) (length s)) (fine f (rowFrom s)) (eqb (valueOf f (rowFrom s)) (defaultOf f (rowFrom s))) (at + placeOf f (mapOf s))
+fieldChecks f s at = present f s at ∷ judged f s at ∷ []
 
--- In file order: 1, the file ends where the map byte should stand; 4, a map bit of 3 to 6; then the fields. The row stands at `at`, and places count from the start of the file.
+-- The map byte: 1, the file ends where it should stand; 4, a map bit of 4 to 6; 19, bits 1 and 3 both set.
+abbrev pub mapChecks : List ℕ → ℕ → List Outcome
+mapChecks s at = unless (leb 1 (length s)) 1 at ∷ unless (reservedClear (mapOf s)) 4 at ∷ unless (not (twoPaces (mapOf s))) 19 at ∷ []
+
+-- A row, in file order; but the deadline is judged last, since its range and its default go by the pace. The row stands at `at`, and places count from the start of the file.
 abbrev pub rowChecks : List ℕ → ℕ → List Outcome
 rowChecks s at =
-    unless (leb 1 (length s)) 1 at
-    ∷ unless (reservedClear (mapOf s)) 4 at
-    ∷ fieldChecks Payload s at
+    mapChecks s at
+    ++ fieldChecks Payload s at
     ++ fieldChecks Period s at
-    ++ fieldChecks Deadline s at
+    ++ present Deadline s at
+    ∷ fieldChecks Rate s at
+    ++ fieldChecks Samples s at
+    ++ judged Deadline s at
+    ∷ []
 
 unfoldable pub row : List ℕ → ℕ → Outcome
 row s at = first (rowChecks s at)

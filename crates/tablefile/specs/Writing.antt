@@ -3,7 +3,7 @@ use Prim.Native.Nat.{ℕ, _+_}
 use mathlib.Core.Bool.{cond}
 use mathlib.Core.List.{List, [], _∷_, _++_}
 use mathlib.Core.Path.{_≡_}
-use lib.Dec.{leb, eqb}
+use lib.Dec.{leb}
 use lib.ListN.{length}
 use Rattle.table.specs.declared.Row.{Row}
 use Rattle.table.specs.declared.Table.{Table}
@@ -12,22 +12,22 @@ use Rattle.table.specs.Checks.{Outcome, accepted, refused, unless, first, over}
 use Rattle.table.specs.Ranges.{ranged}
 use Rattle.tablefile.specs.declared.Writing.{Writing}
 use Rattle.tablefile.specs.declared.Writing.the-variants.{Written, TooShort, Refused}
-use Rattle.tablefile.specs.Layout.{letters, bytesOf, Field, Payload, Period, Deadline, valueOf, widthOf, defaultOf, weightOf, bitOf, classBit}
+use Rattle.tablefile.specs.Layout.{letters, bytesOf, Field, Payload, Period, Deadline, Rate, Samples, valueOf, widthOf, states, weightOf, bitOf, classBit}
 use Rattle.table.specs.Checks as checks
 
--- The map byte: a bit for each field that is not its default, and the class.
+-- The map byte: a bit for each field that the row states, one for rate and samples, and the class.
 abbrev pub bitFor : Field → Row → ℕ
-bitFor f r = cond (eqb (valueOf f r) (defaultOf f r)) 0 (weightOf f)
+bitFor f r = cond (states f r) (weightOf f) 0
 
 unfoldable pub mapByte : Row → ℕ
-mapByte r = bitFor Payload r + bitFor Period r + bitFor Deadline r + classBit (r .class)
+mapByte r = bitFor Payload r + bitFor Period r + bitFor Deadline r + bitFor Rate r + classBit (r .class)
 
 -- A row's bytes: its map, then only the fields whose bit stands, in bit order.
 abbrev pub fieldBytes : Field → Row → List ℕ
 fieldBytes f r = cond (bitOf f (mapByte r)) (bytesOf (widthOf f) (valueOf f r)) []
 
 unfoldable pub rowBytes : Row → List ℕ
-rowBytes r = mapByte r ∷ fieldBytes Payload r ++ fieldBytes Period r ++ fieldBytes Deadline r
+rowBytes r = mapByte r ∷ fieldBytes Payload r ++ fieldBytes Period r ++ fieldBytes Deadline r ++ fieldBytes Rate r ++ fieldBytes Samples r
 
 unfoldable pub rowsBytes : List Row → List ℕ
 rowsBytes [] = []

@@ -1,8 +1,10 @@
 // What reader and writer share of the layout: the letters, where the header's fields stand, a map byte's bits, where a row's fields stand, and the defaults.
 ghost use mathlib.Core.Path.{_≡_};
-ghost use Prim.Native.Nat.{_≤_};
-ghost use Rattle.tablefile.specs.Layout.{Payload, Period, Deadline, bitOf, reservedClear, classOf, classBit, placeOf, rowSize, defaultOf};
+ghost use mathlib.Core.Bool.{cond};
+ghost use Prim.Native.Nat.{_+_, _≤_};
+ghost use Rattle.tablefile.specs.Layout.{Payload, Period, Deadline, Rate, Samples, statedOf, rateOf, samplesOf, bitOf, reservedClear, twoPaces, classOf, classBit, placeOf, rowSize, defaultPayload, defaultPeriod, defaultDeadline};
 use table::Class;
+use table::Pace;
 use table::Row;
 use table::wire::period;
 
@@ -28,18 +30,24 @@ pub const PERIOD_WIDTH: usize = 4;
 
 pub const DEADLINE_WIDTH: usize = 4;
 
-// The weights of a map byte's bits: one for each field, the lowest of the reserved ones, and class B's above those.
+pub const RATE_WIDTH: usize = 4;
+
+pub const SAMPLES_WIDTH: usize = 1;
+
+// The weights of a map byte's bits: one for each field, rate and samples together, the lowest of the reserved ones, and class B's above those.
 pub const PAYLOAD_WEIGHT: u8 = 1;
 
 pub const PERIOD_WEIGHT: u8 = 2;
 
 pub const DEADLINE_WEIGHT: u8 = 4;
 
-const RESERVED_WEIGHT: u8 = 8;
+pub const RATE_WEIGHT: u8 = 8;
+
+const RESERVED_WEIGHT: u8 = 16;
 
 const CLASS_WEIGHT: u8 = 128;
 
-// What a map byte says: which fields stand, whether no reserved bit does, and the class.
+// What a map byte says: which fields stand, whether no reserved bit does, whether both paces stand, and the class.
 pub fn payload_stands(map: u8) -> bool
     ensures { λ r. ⌜ r ≡ bitOf Payload map ⌝ }
 {
@@ -58,11 +66,27 @@ pub fn deadline_stands(map: u8) -> bool
     map / DEADLINE_WEIGHT % 2 == 1
 }
 
+// The bit of the rate and of the samples.
+pub fn rate_stands(map: u8) -> bool
+    ensures { λ r. ⌜ r ≡ bitOf Rate map ⌝ }
+{
+    map / RATE_WEIGHT % 2 == 1
+}
+
 // The bits below the class's, taken together, are below the lowest reserved one.
 pub fn reserved_clear(map: u8) -> bool
     ensures { λ r. ⌜ r ≡ reservedClear map ⌝ }
 {
     map % CLASS_WEIGHT < RESERVED_WEIGHT
+}
+
+pub fn two_paces(map: u8) -> bool
+    ensures { λ r. ⌜ r ≡ twoPaces map ⌝ }
+{
+    if period_stands(map) {
+        return rate_stands(map);
+    }
+    false
 }
 
 pub fn class_of(map: u8) -> Class
@@ -85,48 +109,91 @@ pub fn class_bit(class: Class) -> u8
     }
 }
 
-// Where a row's period and its deadline stand, and the row's size, counted from the map byte.
+// Behind a field at a place, which takes its bytes where its bit stands, and else none.
+fn behind(place: usize, stands: bool, width: usize) -> usize
+    requires { ⌜ place + width ≤ 16 ⌝ }
+    ensures { λ r. ⌜ r ≡ place + cond stands width 0 ⌝ }
+    ensures small { λ r. ⌜ r ≤ place + width ⌝ }
+{
+    if stands {
+        return place + width;
+    }
+    place
+}
+
+// Where a row's period, deadline, rate and samples stand, and the row's size, counted from the map byte.
 pub fn period_place(map: u8) -> usize
     ensures { λ r. ⌜ r ≡ placeOf Period map ⌝ }
     ensures small { λ r. ⌜ r ≤ 3 ⌝ }
 {
-    if payload_stands(map) {
-        return PAYLOAD_PLACE + PAYLOAD_WIDTH;
-    }
-    PAYLOAD_PLACE
+    behind(PAYLOAD_PLACE, payload_stands(map), PAYLOAD_WIDTH)
 }
 
 pub fn deadline_place(map: u8) -> usize
     ensures { λ r. ⌜ r ≡ placeOf Deadline map ⌝ }
     ensures small { λ r. ⌜ r ≤ 7 ⌝ }
 {
-    let place = period_place(map);
-    if period_stands(map) {
-        return place + PERIOD_WIDTH;
-    }
-    place
+    behind(period_place(map), period_stands(map), PERIOD_WIDTH)
+}
+
+pub fn rate_place(map: u8) -> usize
+    ensures { λ r. ⌜ r ≡ placeOf Rate map ⌝ }
+    ensures small { λ r. ⌜ r ≤ 11 ⌝ }
+{
+    behind(deadline_place(map), deadline_stands(map), DEADLINE_WIDTH)
+}
+
+pub fn samples_place(map: u8) -> usize
+    ensures { λ r. ⌜ r ≡ placeOf Samples map ⌝ }
+    ensures small { λ r. ⌜ r ≤ 15 ⌝ }
+{
+    behind(rate_place(map), rate_stands(map), RATE_WIDTH)
 }
 
 pub fn row_size(map: u8) -> usize
     ensures { λ r. ⌜ r ≡ rowSize map ⌝ }
-    ensures small { λ r. ⌜ r ≤ 11 ⌝ }
+    ensures small { λ r. ⌜ r ≤ 16 ⌝ }
 {
-    let place = deadline_place(map);
-    if deadline_stands(map) {
-        return place + DEADLINE_WIDTH;
+    behind(samples_place(map), rate_stands(map), SAMPLES_WIDTH)
+}
+
+// What a pace says in each field, 0 where it says nothing.
+pub fn stated(pace: Pace) -> u32
+    ensures { λ r. ⌜ r ≡ statedOf pace ⌝ }
+{
+    match pace {
+        Pace::Period(p) => p,
+        Pace::Rated(_, _) => 0,
     }
-    place
+}
+
+pub fn rate(pace: Pace) -> u32
+    ensures { λ r. ⌜ r ≡ rateOf pace ⌝ }
+{
+    match pace {
+        Pace::Period(_) => 0,
+        Pace::Rated(_, rate) => rate,
+    }
+}
+
+pub fn samples(pace: Pace) -> u8
+    ensures { λ r. ⌜ r ≡ samplesOf pace ⌝ }
+{
+    match pace {
+        Pace::Period(_) => 0,
+        Pace::Rated(samples, _) => samples,
+    }
 }
 
 // The defaults. Each may go by what stands before its field in the row.
 pub fn default_payload(_row: Row) -> u16
-    ensures { λ r. ⌜ r ≡ defaultOf Payload «_row» ⌝ }
+    ensures { λ r. ⌜ r ≡ defaultPayload «_row» ⌝ }
 {
     42
 }
 
 pub fn default_period(row: Row) -> u32
-    ensures { λ r. ⌜ r ≡ defaultOf Period row ⌝ }
+    ensures { λ r. ⌜ r ≡ defaultPeriod row ⌝ }
 {
     let class = row.class;
     match class {
@@ -135,8 +202,8 @@ pub fn default_period(row: Row) -> u32
     }
 }
 
-pub fn default_deadline(row: Row) -> u32
-    ensures { λ r. ⌜ r ≡ defaultOf Deadline row ⌝ }
+pub fn default_deadline(row: Row) -> u64
+    ensures { λ r. ⌜ r ≡ defaultDeadline row ⌝ }
 {
-    period(row) as u32
+    period(row)
 }

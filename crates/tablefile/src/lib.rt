@@ -11,6 +11,7 @@ pub enum Fault {
     OutOfRange,
     StatesDefault,
     Trailing,
+    TwoPaces,
 }
 
 // The answer of reading: the whole file was read, or what is wrong and at which byte.

@@ -6,7 +6,7 @@ use crate::Fault;
 
 pub fn number(f: Fault) -> u64
     ensures { λ n. ⌜ n ≡ numberOf f ⌝ }
-    ensures small { λ n. ⌜ n ≤ 7 ⌝ }
+    ensures small { λ n. ⌜ n ≤ 19 ⌝ }
 {
     match f {
         Fault::CutShort => 1,
@@ -16,5 +16,6 @@ pub fn number(f: Fault) -> u64
         Fault::OutOfRange => 5,
         Fault::StatesDefault => 6,
         Fault::Trailing => 7,
+        Fault::TwoPaces => 19,
     }
 }

@@ -1,69 +1,56 @@
--- What is wrong with a row, field by field.
-use Prim.Native.Nat.{ℕ, _+_, _≤_, _<_}
+-- What is wrong with a row, part by part.
+use Prim.Native.Nat.{ℕ, _+_}
 use mathlib.Core.Bool.{Bool, true, false}
-use mathlib.Core.List.{List, _++_}
+use mathlib.Core.List.{List, [], _∷_, _++_}
 use mathlib.Core.Path.{_≡_, refl, sym, _∙_, ap}
-use lib.Dec.{leb, eqb}
+use lib.Dec.{leb}
 use lib.ListN.{length}
-use borrow.Author.Tests.{le-leb, lt-leb}
 use Rattle.table.specs.declared.Row.{Row}
-use Rattle.table.specs.Checks.{Outcome, refused, first}
-use Rattle.tablefile.specs.declared.Fault.{Fault}
-use Rattle.tablefile.specs.declared.Reading.{Reading}
-use Rattle.tablefile.specs.declared.Reading.the-variants.{Whole, Refused}
-use Rattle.tablefile.specs.Layout.{Field, Payload, Period, Deadline, valueOf, widthOf, defaultOf, bitOf, reservedClear, placeOf}
-use Rattle.tablefile.specs.Reading.{outcomeOf, mapOf, rowFrom, fine, fieldTests, fieldChecks, row}
-use Rattle.tablefile.proofs.Laws.{orElse, first-join, field-read, field-inside}
+use Rattle.table.specs.Checks.{Outcome, accepted, refused, first}
+use Rattle.tablefile.specs.Layout.{Field, widthOf, usual, bitOf, placeOf}
+use Rattle.tablefile.specs.Reading.{mapOf, rowFrom, fine, presence, present, judgement, judged, fieldTests, fieldChecks}
+use Rattle.tablefile.proofs.Laws.{orElse, first-join}
 
 -- a field's tests, with what is known of each
 pub by-tests : (b i o u : Bool) (place : ℕ) {stands inside ok usual : Bool} → b ≡ stands → i ≡ inside → o ≡ ok → u ≡ usual → first (fieldTests stands inside ok usual place) ≡ first (fieldTests b i o u place)
 by-tests b i o u place eb ei eo eu = rw (eb, ei, eo, eu) refl
 
 -- the tests that the code makes of a field are the field's
-pub field-told : (f : Field) (s : List ℕ) (at : ℕ) {m : ℕ} {r : Row} {b inside ok usual : Bool} {place : ℕ} {x : Outcome} → m ≡ mapOf s → r ≡ rowFrom s → b ≡ bitOf f m
-    → inside ≡ leb (placeOf f m + widthOf f) (length s) → ok ≡ fine f r → usual ≡ eqb (valueOf f r) (defaultOf f r) → place ≡ at + placeOf f m
-    → x ≡ first (fieldTests b inside ok usual place) → x ≡ first (fieldChecks f s at)
-field-told f s at em er eb ei eo eu ep e = rw (← em, ← er, ← eb, ← ei, ← eo, ← eu, ← ep) e
+module _ (f : Field) (s : List ℕ) (at : ℕ) {m : ℕ} (em : m ≡ mapOf s) {b : Bool} (eb : b ≡ bitOf f m) {place : ℕ} (ep : place ≡ placeOf f m) where
+  pub field-told : {r : Row} {inside ok default : Bool} {x : Outcome} → r ≡ rowFrom s → inside ≡ leb (place + widthOf f) (length s) → ok ≡ fine f r → default ≡ usual f r
+      → x ≡ first (fieldTests b inside ok default (at + place)) → x ≡ first (fieldChecks f s at)
+  field-told er ei eo eu e = rw (← em, ← er, ← eb, ← ep, ← ei, ← eo, ← eu) e
 
-module _ (s : List ℕ) (at : ℕ) where
-  pub no-map : length s < 1 → refused 1 at ≡ row s at
-  unfolding row
-  no-map h = rw (lt-leb _ _ h) refl
+  -- only whether it is there, and only what it says
+  pub present-told : {inside : Bool} {x : Outcome} → inside ≡ leb (place + widthOf f) (length s) → x ≡ first (fieldTests b inside true false (at + place)) → x ≡ present f s at
+  present-told {inside} ei e = e ∙ go b inside ∙ rw (← em, ← eb, ← ep, ← ei) refl
+    where
+      go : (b inside : Bool) → first (fieldTests b inside true false (at + place)) ≡ presence b inside (at + place)
+      go true true = refl
+      go true false = refl
+      go false inside = refl
 
-  module _ (long : 1 ≤ length s) {m : ℕ} (is : m ≡ mapOf s) where
-    pub bad-map : reservedClear m ≡ false → refused 4 at ≡ row s at
-    unfolding row
-    bad-map h = rw (le-leb _ _ long, ← is, h) refl
+  -- a field that does not stand is not judged, so what is held for it does not matter
+  pub judged-told : {r : Row} {ok default : Bool} {x : Outcome} → (b ≡ true → r ≡ rowFrom s) → ok ≡ fine f r → default ≡ usual f r → x ≡ first (fieldTests b true ok default (at + place)) → x ≡ judged f s at
+  judged-told {r} {ok} {default} er eo eu e = e ∙ by-bit b refl ∙ rw (← em, ← eb, ← ep) refl
+    where
+      go : (ok default : Bool) → first (fieldTests true true ok default (at + place)) ≡ judgement true ok default (at + place)
+      go true true = refl
+      go true false = refl
+      go false default = refl
 
-    module _ (clear : reservedClear m ≡ true) where
-      by-fields : row s at ≡ orElse (orElse (first (fieldChecks Payload s at)) (first (fieldChecks Period s at))) (first (fieldChecks Deadline s at))
-      unfolding row
-      by-fields =
-          let c : reservedClear (mapOf s) ≡ true = rw (← is) clear in
-          rw (le-leb 1 (length s) long, c)
-          (first-join (fieldChecks Payload s at ++ fieldChecks Period s at) (fieldChecks Deadline s at)
-          ∙ ap (λ (o : Outcome). orElse o (first (fieldChecks Deadline s at))) (first-join (fieldChecks Payload s at) (fieldChecks Period s at)))
+      by-bit : (c : Bool) → b ≡ c → first (fieldTests c true ok default (at + place)) ≡ judgement c (fine f (rowFrom s)) (usual f (rowFrom s)) (at + place)
+      by-bit true h = rw (eo, eu, er h) (go (fine f (rowFrom s)) (usual f (rowFrom s)))
+      by-bit false h = refl
 
-      module _ {x : Reading} (ex : outcomeOf x ≡ first (fieldChecks Payload s at)) where
-        pub in-payload : {f : Fault} {p : ℕ} → x ≡ Refused f p → outcomeOf (Refused f p) ≡ row s at
-        in-payload e = sym (by-fields ∙ rw (← ex, e) refl)
+-- checks one behind the other: a refusal ends them, and else the others decide
+pub alone : (o : Outcome) → o ≡ first (o ∷ [])
+alone accepted = refl
+alone (refused n p) = refl
 
-        module _ (px : x ≡ Whole) where
-          pub period-inside : placeOf Period m ≤ length s
-          period-inside =
-              let a = field-read Payload s at (sym ex ∙ ap outcomeOf px) in
-              rw is (field-inside Payload (mapOf s) (length s) long (a .inside))
-
-          module _ {y : Reading} (ey : outcomeOf y ≡ first (fieldChecks Period s at)) where
-            pub in-period : {f : Fault} {p : ℕ} → y ≡ Refused f p → outcomeOf (Refused f p) ≡ row s at
-            in-period e = sym (by-fields ∙ rw (← ex, px, ← ey, e) refl)
-
-            module _ (py : y ≡ Whole) where
-              pub deadline-inside : placeOf Deadline m ≤ length s
-              deadline-inside =
-                  let a = field-read Period s at (sym ey ∙ ap outcomeOf py) in
-                  let h : placeOf Period (mapOf s) ≤ length s = rw (← is) period-inside in
-                  rw is (field-inside Period (mapOf s) (length s) h (a .inside))
-
-              pub in-deadline : {z : Outcome} → z ≡ first (fieldChecks Deadline s at) → z ≡ row s at
-              in-deadline e = e ∙ sym (by-fields ∙ rw (← ex, px, ← ey, py) refl)
+pub joined : (xs ys : List Outcome) {x y z : Outcome} → x ≡ first xs → y ≡ first ys → z ≡ first (x ∷ y ∷ []) → z ≡ first (xs ++ ys)
+joined xs ys {x} {y} ex ey e = e ∙ both x y ∙ ap (λ (o : Outcome). orElse o y) ex ∙ ap (orElse (first xs)) ey ∙ sym (first-join xs ys)
+  where
+    both : (x y : Outcome) → first (x ∷ y ∷ []) ≡ orElse x y
+    both accepted y = sym (alone y)
+    both (refused n p) y = refl

@@ -1,5 +1,5 @@
 -- A field's value and a row, as the code comes to them.
-use Prim.Native.Nat.{ℕ, _+_, _*_}
+use Prim.Native.Nat.{ℕ, _+_, _*_, _≤_}
 use mathlib.Core.Bool.{Bool, true, false}
 use mathlib.Core.List.{List}
 use mathlib.Core.Path.{_≡_, refl, sym, _∙_, ap}
@@ -7,9 +7,20 @@ use native.Mathlib.Nat.{add-zero, add-assoc}
 use native.Mathlib.Omega.{arith}
 use lib.ListN.{getD}
 use Rattle.table.specs.declared.Class.{Class}
+use Rattle.table.specs.declared.Pace.{Pace}
+use Rattle.table.specs.declared.Pace.the-variants as paces
 use Rattle.table.specs.declared.Row.{Row}
-use Rattle.tablefile.specs.Layout.{valueAt, Field, Payload, Period, Deadline, widthOf, defaultOf, bitOf, classOf, placeOf}
-use Rattle.tablefile.specs.Reading.{mapOf, withValue, withField, rowFrom}
+use Rattle.table.specs.Limits.{mostPeriod}
+use Rattle.table.specs.Wire.{periodOf}
+use Rattle.table.specs.Checks.{accepted}
+use Rattle.table.proofs.Laws as law
+use Rattle.tablefile.specs.Layout.{valueAt, Field, Payload, Period, Deadline, Rate, Samples, widthOf, defaultPayload, defaultPeriod, defaultDeadline, bitOf, classOf, placeOf}
+use Rattle.tablefile.specs.Reading.{mapOf, numberIn, said, blank, withPayload, paceFrom, withDeadline, pacedFrom, rowFrom, row}
+use Rattle.tablefile.proofs.Laws.{row-if, pace-in-range}
+
+pub one-byte : (s : List ℕ) (at : ℕ) → valueAt 1 s at ≡ getD s at 0
+unfolding valueAt
+one-byte s at = rw (add-zero at) (omega arith)
 
 pub two-bytes : (s : List ℕ) (at : ℕ) → valueAt 2 s at ≡ 256 * getD s at 0 + getD s (at + 1) 0
 unfolding valueAt
@@ -19,15 +30,45 @@ pub four-bytes : (s : List ℕ) (at : ℕ) → valueAt 4 s at ≡ 65536 * valueA
 unfolding valueAt
 four-bytes s at = rw (add-zero at, add-zero (at + 2), add-assoc at 2 1) (omega arith)
 
-module _ (f : Field) (s : List ℕ) (before : Row) {m : ℕ} (is : m ≡ mapOf s) {b : Bool} (bit : b ≡ bitOf f m) {v : ℕ} where
-  pub field-stated : b ≡ true → {p : ℕ} → p ≡ placeOf f m → v ≡ valueAt (widthOf f) s p → withValue f before v ≡ withField f s before
-  field-stated h e g = let q : bitOf f (mapOf s) ≡ true = rw (← is) (sym bit ∙ h) in rw (q, ← is, ← e, g) refl
+module _ (f : Field) (s : List ℕ) {m : ℕ} (is : m ≡ mapOf s) {v : ℕ} where
+  pub number-here : {p : ℕ} → p ≡ placeOf f m → v ≡ valueAt (widthOf f) s p → v ≡ numberIn f s
+  number-here e g = g ∙ rw (e, is) refl
 
-  pub field-unstated : b ≡ false → v ≡ defaultOf f before → withValue f before v ≡ withField f s before
-  field-unstated h g = let q : bitOf f (mapOf s) ≡ false = rw (← is) (sym bit ∙ h) in rw (q, g) refl
+  module _ {b : Bool} (bit : b ≡ bitOf f m) (default : ℕ) where
+    pub stated : b ≡ true → {p : ℕ} → p ≡ placeOf f m → v ≡ valueAt (widthOf f) s p → v ≡ said f s default
+    stated h e g = let q : bitOf f (mapOf s) ≡ true = rw (← is) (sym bit ∙ h) in rw q (number-here e g)
 
-pub row-built : (s : List ℕ) {m : ℕ} {c : Class} {x y z : Row} → m ≡ mapOf s → c ≡ classOf m → x ≡ withField Payload s (record { class = c; payload = 0; period = 0; deadline = 0 })
-    → y ≡ withField Period s x → z ≡ withField Deadline s y → z ≡ rowFrom s
+    pub unstated : b ≡ false → v ≡ default → v ≡ said f s default
+    unstated h g = let q : bitOf f (mapOf s) ≡ false = rw (← is) (sym bit ∙ h) in rw q g
+
+-- a field put into the row before it
+pub payload-put : (s : List ℕ) (before : Row) {v : ℕ} → v ≡ said Payload s (defaultPayload before) → _≡_ {A = Row} (record { class = before .class; payload = v; pace = before .pace; deadline = before .deadline }) (withPayload s before)
+payload-put s before e = rw e refl
+
+pub deadline-put : (s : List ℕ) (before : Row) {v : ℕ} → v ≡ said Deadline s (defaultDeadline before) → _≡_ {A = Row} (record { class = before .class; payload = before .payload; pace = before .pace; deadline = v }) (withDeadline s before)
+deadline-put s before e = rw e refl
+
+module _ (s : List ℕ) (before : Row) {m : ℕ} (is : m ≡ mapOf s) {b : Bool} (bit : b ≡ bitOf Rate m) where
+  pub by-rate : {v n : ℕ} → b ≡ true → v ≡ numberIn Rate s → n ≡ numberIn Samples s → paces.Rated n v ≡ paceFrom s before
+  by-rate h e g = let q : bitOf Rate (mapOf s) ≡ true = rw (← is) (sym bit ∙ h) in rw (e, g, q) refl
+
+  pub by-period : {v : ℕ} → b ≡ false → v ≡ said Period s (defaultPeriod before) → paces.Period v ≡ paceFrom s before
+  by-period h e = let q : bitOf Rate (mapOf s) ≡ false = rw (← is) (sym bit ∙ h) in rw (q, e) refl
+
+pub paced-built : (s : List ℕ) {m : ℕ} {c : Class} {x : Row} {p : Pace} → m ≡ mapOf s → c ≡ classOf m → x ≡ withPayload s (blank c) → p ≡ paceFrom s x
+    → _≡_ {A = Row} (record { class = c; payload = x .payload; pace = p; deadline = 0 }) (pacedFrom s)
+unfolding pacedFrom
+paced-built s em ec ex ep = rw (ep, ex, ec, em) refl
+
+pub row-built : (s : List ℕ) {x : Row} → x ≡ pacedFrom s → withDeadline s x ≡ rowFrom s
 unfolding rowFrom
-row-built s em ec ex ey ez =
-    ez ∙ ap (withField Deadline s) (ey ∙ ap (withField Period s) (ex ∙ ap (λ (c : Class). withField Payload s (record { class = c; payload = 0; period = 0; deadline = 0 })) (ec ∙ ap classOf em)))
+row-built s e = ap (withDeadline s) e
+
+-- a deadline that stands
+pub deadline-stated : (s : List ℕ) {m : ℕ} → m ≡ mapOf s → {b : Bool} → b ≡ bitOf Deadline m → {p : ℕ} → p ≡ placeOf Deadline m → {x : Row} → x ≡ pacedFrom s → {v : ℕ} → v ≡ valueAt 4 s p → b ≡ true
+    → _≡_ {A = Row} (record { class = x .class; payload = x .payload; pace = x .pace; deadline = v }) (rowFrom s)
+deadline-stated s is bit place {x} e g h = deadline-put s x (stated Deadline s is bit (defaultDeadline x) h place g) ∙ row-built s e
+
+-- the period of a row that is let pass fits a deadline
+pub short-period : (s : List ℕ) (at : ℕ) → row s at ≡ accepted → {x : Row} → x ≡ pacedFrom s → periodOf x ≤ mostPeriod
+short-period s at e is = rw is (law.period-range (pacedFrom s) (pace-in-range s (row-if s at e)) .1)

@@ -1,24 +1,27 @@
 // Reading a table file.
-ghost use mathlib.Core.List.{[]};
+ghost use mathlib.Core.List.{[], _∷_, _++_};
 ghost use mathlib.Core.Path.{_≡_};
 ghost use Prim.Native.Nat.{_+_, _≤_};
 ghost use lib.ListN.{length, getD};
-ghost use Rattle.table.specs.Rows.{noRow};
-ghost use Rattle.table.specs.Checks.{accepted, first};
+ghost use Rattle.table.specs.Limits.{mostPeriod};
+ghost use Rattle.table.specs.Wire.{periodOf};
+ghost use Rattle.table.specs.Checks.{accepted, unless, first};
 ghost use Rattle.tablefile.specs.declared.Reading.{Reading};
-ghost use Rattle.tablefile.specs.Layout.{headerSize, valueAt, Payload, Period, Deadline, placeOf};
-ghost use Rattle.tablefile.specs.Reading.{outcomeOf, opens, header, mapOf, withField, rowFrom, fine};
-ghost use Rattle.tablefile.specs.Reading.{fieldTests, fieldChecks, row, noTable, tableOf, Reads};
-use table::Class;
+ghost use Rattle.tablefile.specs.Layout.{headerSize, valueAt, Payload, Period, Deadline, Rate, Samples};
+ghost use Rattle.tablefile.specs.Reading.{numberOf, outcomeOf, opens, header, mapOf, withPayload, paceFrom, withDeadline, pacedFrom};
+ghost use Rattle.tablefile.specs.Reading.{present, judged, fieldTests, fieldChecks, mapChecks, row, noTable, tableOf, Reads};
 use table::Header;
+use table::Pace;
 use table::ROWS;
 use table::Row;
 use table::Table;
-use table::ranges::LEAST_PERIOD;
 use table::ranges::MOST_PAYLOAD;
-use table::ranges::MOST_PERIOD;
 use table::ranges::MOST_SLOPE;
-use table::wire::period;
+use table::ranges::deadline_ok;
+use table::ranges::period_ok;
+use table::ranges::rate_ok;
+use table::ranges::samples_ok;
+use table::rows::no_row;
 use tablefile::Fault;
 use tablefile::Loaded;
 use tablefile::Reading;
@@ -32,6 +35,8 @@ use tablefile::layout::LETTERS;
 use tablefile::layout::PAYLOAD_PLACE;
 use tablefile::layout::PAYLOAD_WIDTH;
 use tablefile::layout::PERIOD_WIDTH;
+use tablefile::layout::RATE_WIDTH;
+use tablefile::layout::SAMPLES_WIDTH;
 use tablefile::layout::class_of;
 use tablefile::layout::deadline_place;
 use tablefile::layout::deadline_stands;
@@ -41,8 +46,15 @@ use tablefile::layout::default_period;
 use tablefile::layout::payload_stands;
 use tablefile::layout::period_place;
 use tablefile::layout::period_stands;
+use tablefile::layout::rate;
+use tablefile::layout::rate_place;
+use tablefile::layout::rate_stands;
 use tablefile::layout::reserved_clear;
 use tablefile::layout::row_size;
+use tablefile::layout::samples;
+use tablefile::layout::samples_place;
+use tablefile::layout::stated;
+use tablefile::layout::two_paces;
 
 // A byte, or 0 behind the last.
 fn byte(s: &[u8], at: usize) -> u8
@@ -70,10 +82,10 @@ fn u32_at(s: &[u8], at: usize) -> u32
     65_536 * u16_at(s, at) as u32 + u16_at(s, at + 2) as u32
 }
 
-// A field where its bit stands, and else its default in the row before it. `s` starts at the row's map byte.
+// The payload where its bit stands, and else its default in the row before it. `s` starts at the row's map byte.
 fn with_payload(s: &[u8], map: u8, before: Row) -> Row
     requires { ⌜ map ≡ mapOf (now s) ⌝ }
-    ensures { λ r. ⌜ r ≡ withField Payload (now (s .entry)) before ⌝ }
+    ensures { λ r. ⌜ r ≡ withPayload (now (s .entry)) before ⌝ }
 {
     let mut row = before;
     if payload_stands(map) {
@@ -84,66 +96,76 @@ fn with_payload(s: &[u8], map: u8, before: Row) -> Row
     row
 }
 
-fn with_period(s: &[u8], map: u8, before: Row) -> Row
+// A rate and samples where their bit stands, and else a period.
+fn pace_from(s: &[u8], map: u8, before: Row) -> Pace
     requires { ⌜ map ≡ mapOf (now s) ⌝ }
-    ensures { λ r. ⌜ r ≡ withField Period (now (s .entry)) before ⌝ }
+    ensures { λ r. ⌜ r ≡ paceFrom (now (s .entry)) before ⌝ }
 {
-    let mut row = before;
-    if period_stands(map) {
-        row.period = u32_at(s, period_place(map));
-        return row;
+    if rate_stands(map) {
+        let rate = u32_at(s, rate_place(map));
+        let samples = byte(s, samples_place(map));
+        return Pace::Rated(samples, rate);
     }
-    row.period = default_period(before);
-    row
+    if period_stands(map) {
+        return Pace::Period(u32_at(s, period_place(map)));
+    }
+    Pace::Period(default_period(before))
 }
 
+// A row but for its deadline, whose default goes by the pace. It says nothing of what is wrong with the row.
+fn paced_from(s: &[u8], map: u8) -> Row
+    requires { ⌜ map ≡ mapOf (now s) ⌝ }
+    ensures { λ r. ⌜ r ≡ pacedFrom (now (s .entry)) ⌝ }
+{
+    let class = class_of(map);
+    let none = Row {
+        class,
+        payload: 0,
+        pace: Pace::Period(0),
+        deadline: 0,
+    };
+    let first = with_payload(s, map, none);
+    Row {
+        class,
+        payload: first.payload,
+        pace: pace_from(s, map, first),
+        deadline: 0,
+    }
+}
+
+// The period of a pace that is out of range may be too long for a deadline.
 fn with_deadline(s: &[u8], map: u8, before: Row) -> Row
     requires { ⌜ map ≡ mapOf (now s) ⌝ }
-    ensures { λ r. ⌜ r ≡ withField Deadline (now (s .entry)) before ⌝ }
+    requires { ⌜ periodOf before ≤ mostPeriod ⌝ }
+    ensures { λ r. ⌜ r ≡ withDeadline (now (s .entry)) before ⌝ }
 {
     let mut row = before;
     if deadline_stands(map) {
         row.deadline = u32_at(s, deadline_place(map));
         return row;
     }
-    row.deadline = default_deadline(before);
+    row.deadline = default_deadline(before) as u32;
     row
 }
 
-// The row of a part of the file that starts at the row's map byte. It says nothing of what is wrong with it.
-fn row_from(s: &[u8], map: u8) -> Row
-    requires { ⌜ map ≡ mapOf (now s) ⌝ }
-    ensures { λ r. ⌜ r ≡ rowFrom (now (s .entry)) ⌝ }
+// A fault where a test fails.
+fn fault_unless(ok: bool, fault: Fault, place: usize) -> Reading
+    ensures { λ r. ⌜ outcomeOf r ≡ unless ok (numberOf fault) place ⌝ }
 {
-    let none = Row {
-        class: class_of(map),
-        payload: 0,
-        period: 0,
-        deadline: 0,
-    };
-    let first = with_payload(s, map, none);
-    let second = with_period(s, map, first);
-    with_deadline(s, map, second)
+    if ok {
+        return Reading::Whole;
+    }
+    Reading::Refused(fault, place)
 }
 
-fn period_fine(row: Row) -> bool
-    ensures { λ r. ⌜ r ≡ fine Period row ⌝ }
+// The first of two answers that refuses.
+fn first_of(one: Reading, other: Reading) -> Reading
+    ensures { λ r. ⌜ outcomeOf r ≡ first (outcomeOf one ∷ outcomeOf other ∷ []) ⌝ }
 {
-    let p = period(row);
-    if p < LEAST_PERIOD {
-        return false;
+    match one {
+        Reading::Whole => other,
+        Reading::Refused(fault, place) => Reading::Refused(fault, place),
     }
-    p <= MOST_PERIOD
-}
-
-fn deadline_fine(row: Row) -> bool
-    ensures { λ r. ⌜ r ≡ fine Deadline row ⌝ }
-{
-    let p = period(row);
-    if row.deadline < 1 {
-        return false;
-    }
-    row.deadline as u64 <= p
 }
 
 // What is wrong with a field whose bit stands.
@@ -165,10 +187,20 @@ fn field_fault(stands: bool, inside: bool, ok: bool, usual: bool, place: usize) 
     Reading::Whole
 }
 
-// What is wrong with each field of a row that stands at `at` in the file.
+// What is wrong with the map byte of a row that stands at `at` in the file, and with each of its fields, the last of which starts at most 15 bytes behind the map byte.
+fn map_fault(s: &[u8], at: usize, map: u8) -> Reading
+    requires { ⌜ map ≡ mapOf (now s) ⌝ }
+    ensures { λ r. ⌜ outcomeOf r ≡ first (mapChecks (now (s .entry)) at) ⌝ }
+{
+    let of_end = fault_unless(1 <= s.len(), Fault::CutShort, at);
+    let of_bits = fault_unless(reserved_clear(map), Fault::MapBit, at);
+    let of_paces = fault_unless(!two_paces(map), Fault::TwoPaces, at);
+    first_of(of_end, first_of(of_bits, of_paces))
+}
+
 fn payload_fault(s: &[u8], at: usize, map: u8, row: Row) -> Reading
-    requires { ⌜ (map ≡ mapOf (now s)) × (row ≡ rowFrom (now s)) ⌝ }
-    requires { ⌜ at + placeOf Payload map ≤ 18446744073709551615 ⌝ }
+    requires { ⌜ (map ≡ mapOf (now s)) × (row ≡ pacedFrom (now s)) ⌝ }
+    requires { ⌜ at + 15 ≤ 18446744073709551615 ⌝ }
     ensures { λ r. ⌜ outcomeOf r ≡ first (fieldChecks Payload (now (s .entry)) at) ⌝ }
 {
     let inside = PAYLOAD_PLACE + PAYLOAD_WIDTH <= s.len();
@@ -183,58 +215,85 @@ fn payload_fault(s: &[u8], at: usize, map: u8, row: Row) -> Reading
 }
 
 fn period_fault(s: &[u8], at: usize, map: u8, row: Row) -> Reading
-    requires { ⌜ (map ≡ mapOf (now s)) × (row ≡ rowFrom (now s)) ⌝ }
-    requires { ⌜ at + placeOf Period map ≤ 18446744073709551615 ⌝ }
+    requires { ⌜ (map ≡ mapOf (now s)) × (row ≡ pacedFrom (now s)) ⌝ }
+    requires { ⌜ at + 15 ≤ 18446744073709551615 ⌝ }
     ensures { λ r. ⌜ outcomeOf r ≡ first (fieldChecks Period (now (s .entry)) at) ⌝ }
 {
     let place = period_place(map);
     let inside = place + PERIOD_WIDTH <= s.len();
-    let usual = row.period == default_period(row);
+    let pace = row.pace;
+    let period = stated(pace);
+    let usual = period == default_period(row);
     field_fault(
         period_stands(map),
         inside,
-        period_fine(row),
+        period_ok(period),
         usual,
         at + place,
     )
 }
 
-fn deadline_fault(s: &[u8], at: usize, map: u8, row: Row) -> Reading
-    requires { ⌜ (map ≡ mapOf (now s)) × (row ≡ rowFrom (now s)) ⌝ }
-    requires { ⌜ at + placeOf Deadline map ≤ 18446744073709551615 ⌝ }
-    ensures { λ r. ⌜ outcomeOf r ≡ first (fieldChecks Deadline (now (s .entry)) at) ⌝ }
+// Rate and samples share a bit, and have no default.
+fn rated_fault(s: &[u8], at: usize, map: u8, row: Row) -> Reading
+    requires { ⌜ (map ≡ mapOf (now s)) × (row ≡ pacedFrom (now s)) ⌝ }
+    requires { ⌜ at + 15 ≤ 18446744073709551615 ⌝ }
+    ensures { λ r. ⌜ outcomeOf r ≡ first (fieldChecks Rate (now (s .entry)) at ++ fieldChecks Samples (now (s .entry)) at) ⌝ }
+{
+    let stands = rate_stands(map);
+    let pace = row.pace;
+    let place = rate_place(map);
+    let inside = place + RATE_WIDTH <= s.len();
+    let of_rate = field_fault(stands, inside, rate_ok(rate(pace)), false, at + place);
+    let next = samples_place(map);
+    let within = next + SAMPLES_WIDTH <= s.len();
+    let of_samples = field_fault(stands, within, samples_ok(samples(pace)), false, at + next);
+    first_of(of_rate, of_samples)
+}
+
+// Where the deadline stands it is only asked for. Its range and default are judged behind all other fields.
+fn deadline_absent(s: &[u8], at: usize, map: u8) -> Reading
+    requires { ⌜ map ≡ mapOf (now s) ⌝ }
+    requires { ⌜ at + 15 ≤ 18446744073709551615 ⌝ }
+    ensures { λ r. ⌜ outcomeOf r ≡ present Deadline (now (s .entry)) at ⌝ }
 {
     let place = deadline_place(map);
     let inside = place + DEADLINE_WIDTH <= s.len();
-    let usual = row.deadline == default_deadline(row);
+    field_fault(deadline_stands(map), inside, true, false, at + place)
+}
+
+fn deadline_fault(s: &[u8], at: usize, map: u8, paced: Row) -> Reading
+    requires { ⌜ (map ≡ mapOf (now s)) × (paced ≡ pacedFrom (now s)) ⌝ }
+    requires { ⌜ at + 15 ≤ 18446744073709551615 ⌝ }
+    ensures { λ r. ⌜ outcomeOf r ≡ judged Deadline (now (s .entry)) at ⌝ }
+{
+    let place = deadline_place(map);
+    let mut row = paced;
+    row.deadline = u32_at(s, place);
+    let usual = row.deadline as u64 == default_deadline(row);
     field_fault(
         deadline_stands(map),
-        inside,
-        deadline_fine(row),
+        true,
+        deadline_ok(row),
         usual,
         at + place,
     )
 }
 
 // The first thing that is wrong with a row that stands at `at` in the file.
-fn row_fault(s: &[u8], at: usize, map: u8, found: Row) -> Reading
-    requires { ⌜ (map ≡ mapOf (now s)) × (found ≡ rowFrom (now s)) ⌝ }
-    requires { ⌜ at + length (now s) ≤ 18446744073709551615 ⌝ }
+fn row_fault(s: &[u8], at: usize, map: u8, paced: Row) -> Reading
+    requires { ⌜ (map ≡ mapOf (now s)) × (paced ≡ pacedFrom (now s)) ⌝ }
+    requires { ⌜ at + 15 ≤ 18446744073709551615 ⌝ }
     ensures { λ r. ⌜ outcomeOf r ≡ row (now (s .entry)) at ⌝ }
 {
-    if s.len() < 1 {
-        return Reading::Refused(Fault::CutShort, at);
-    }
-    if !reserved_clear(map) {
-        return Reading::Refused(Fault::MapBit, at);
-    }
-    if let Reading::Refused(fault, place) = payload_fault(s, at, map, found) {
-        return Reading::Refused(fault, place);
-    }
-    if let Reading::Refused(fault, place) = period_fault(s, at, map, found) {
-        return Reading::Refused(fault, place);
-    }
-    deadline_fault(s, at, map, found)
+    let of_map = map_fault(s, at, map);
+    let of_payload = payload_fault(s, at, map, paced);
+    let of_period = period_fault(s, at, map, paced);
+    let of_absence = deadline_absent(s, at, map);
+    let of_rate = rated_fault(s, at, map, paced);
+    let of_deadline = deadline_fault(s, at, map, paced);
+    let front = first_of(of_map, first_of(of_payload, of_period));
+    let rest = first_of(of_absence, first_of(of_rate, of_deadline));
+    first_of(front, rest)
 }
 
 fn opens_right(s: &[u8]) -> bool
@@ -280,17 +339,6 @@ fn read_header(s: &[u8]) -> Reading
         return Reading::Refused(Fault::RowCount, COUNT_PLACE);
     }
     Reading::Whole
-}
-
-fn no_row() -> Row
-    ensures { λ r. ⌜ r ≡ noRow ⌝ }
-{
-    Row {
-        class: Class::A,
-        payload: 0,
-        period: 0,
-        deadline: 0,
-    }
 }
 
 // The header's values, with zeros for rows.
@@ -343,10 +391,11 @@ fn read_rows(s: &[u8], start: Table) -> Loaded
     while i < n {
         let part = &s[at..];
         let map = byte(part, 0);
-        let row = row_from(part, map);
-        if let Reading::Refused(fault, place) = row_fault(part, at, map, row) {
+        let paced = paced_from(part, map);
+        if let Reading::Refused(fault, place) = row_fault(part, at, map, paced) {
             return refused(fault, place);
         }
+        let row = with_deadline(part, map, paced);
         table.rows[i] = row;
         at += row_size(map);
         i += 1;
@@ -360,7 +409,7 @@ fn read_rows(s: &[u8], start: Table) -> Loaded
     }
 }
 
-// A file's table, or the first refusal in file order and its place.
+// A file's table, or the first refusal and its place.
 pub fn read(s: &[u8]) -> Loaded
     ensures { λ r. ⌜ Reads (now (s .entry)) r ⌝ }
 {

@@ -1,22 +1,28 @@
 -- A field's bytes and a row's, as the code stores them.
 use Prim.Native.Nat.{ℕ, _+_, _/_, _%_, _≤_}
-use mathlib.Core.Bool.{Bool, true, false, cond}
-use mathlib.Core.List.{List, [], _∷_, _++_}
+use mathlib.Core.Bool.{Bool, true, false, not, cond}
+use mathlib.Core.List.{List, [], _∷_, _++_, append-assoc}
 use mathlib.Core.Path.{_≡_, refl, sym, _∙_, ap}
 use native.Mathlib.Numerals.{add-one}
 use native.Mathlib.Omega.{arith}
 use lib.Dec.{eqb}
 use lib.ListN.{length, set, drop, length-append}
 use lib.Seq.{sets}
+use Rattle.table.specs.declared.Pace.{Pace}
+use Rattle.table.specs.declared.Pace.the-variants as paces
 use Rattle.table.specs.declared.Row.{Row}
-use Rattle.tablefile.specs.Layout.{bytesOf, Field, Payload, Period, Deadline, valueOf, widthOf, defaultOf, weightOf, bitOf, classBit, placeOf, rowSize}
-use Rattle.tablefile.specs.Writing.{mapByte, fieldBytes, rowBytes}
+use Rattle.tablefile.specs.Layout.{bytesOf, Field, Payload, Period, Deadline, Rate, Samples, rateOf, samplesOf, valueOf, widthOf, defaultPayload, defaultPeriod, defaultDeadline, weightOf, bitOf, classBit, sizeIn, placeOf, rowSize}
+use Rattle.tablefile.specs.Writing.{bitFor, mapByte, fieldBytes, rowBytes}
 use Rattle.tablefile.proofs.Laws.{bytes-length, field-size, row-length}
 use Rattle.tablewrite.proofs.Stores.{sets-append, sets-next, sets-front}
 
 -- ---- the bytes of a field, one store each
 alike : {a b : ℕ} {p q : List ℕ} → a ≡ b → p ≡ q → a ∷ p ≡ b ∷ q
 alike e f = cc
+
+one-byte : (v : ℕ) → v ≤ 255 → bytesOf 1 v ≡ v ∷ []
+unfolding bytesOf
+one-byte v h = alike (omega arith) refl
 
 two-bytes : (v : ℕ) → v ≤ 65535 → bytesOf 2 v ≡ v / 256 ∷ v % 256 ∷ []
 unfolding bytesOf
@@ -36,55 +42,98 @@ module _ (l : List ℕ) (at v : ℕ) where
       ∙ sym (sets-append (bytesOf 2 (v / 65536)) (bytesOf 2 (v % 65536)) l at)
       ∙ ap (λ (n : ℕ). sets (sets l at (bytesOf 2 (v / 65536))) (at + n) (bytesOf 2 (v % 65536))) (bytes-length 2 (v / 65536))
 
--- ---- a field, by its bit
-module _ (n v at : ℕ) (b : Bool) where
-  pub part-none : b ≡ false → (l : List ℕ) → l ≡ sets l at (cond b (bytesOf n v) [])
+-- ---- rate and samples
+abbrev pub ratedBytes : Pace → List ℕ
+ratedBytes p = bytesOf 4 (rateOf p) ++ bytesOf 1 (samplesOf p)
+
+pub rated-length : (p : Pace) → length (ratedBytes p) ≡ 5
+rated-length p = length-append (bytesOf 4 (rateOf p)) (bytesOf 1 (samplesOf p)) ∙ rw (bytes-length 4 (rateOf p), bytes-length 1 (samplesOf p)) refl
+
+pub rated-stored : (p : Pace) (l : List ℕ) (at : ℕ) {v n : ℕ} {x y : List ℕ} → v ≡ rateOf p → n ≡ samplesOf p → n ≤ 255 → x ≡ sets l at (bytesOf 4 v) → y ≡ set x (at + 4) n → y ≡ sets l at (ratedBytes p)
+rated-stored p l at {v} {n} ev en h ex ey =
+    let one : bytesOf 1 (samplesOf p) ≡ n ∷ [] = rw (← en) (one-byte n h) in
+    ey ∙ rw (ex, ev, one) (rw (bytes-length 4 (rateOf p)) at (sets-append (bytesOf 4 (rateOf p)) (n ∷ []) l at))
+
+-- ---- the bytes of a field, by its bit
+module _ (p : List ℕ) (at : ℕ) (b : Bool) where
+  pub part-none : b ≡ false → (l : List ℕ) → l ≡ sets l at (cond b p [])
   part-none e l = rw e refl
 
-  pub part-room : {m : ℕ} → b ≡ true → at + length (cond b (bytesOf n v) []) ≤ m → at + n ≤ m
-  part-room e h = rw (e, bytes-length n v) at h
+  pub part-room : {m n : ℕ} → length p ≡ n → b ≡ true → at + length (cond b p []) ≤ m → at + n ≤ m
+  part-room ep e h = rw (e, ep) at h
 
-  pub part-stored : (l : List ℕ) {k : List ℕ} → b ≡ true → k ≡ sets l at (bytesOf n v) → k ≡ sets l at (cond b (bytesOf n v) [])
+  pub part-stored : (l : List ℕ) {k : List ℕ} → b ≡ true → k ≡ sets l at p → k ≡ sets l at (cond b p [])
   part-stored l e h = rw e h
 
--- ---- a row
+-- ---- the map byte
 module _ (r : Row) where
-  pub map-is : {p q d a b e k : ℕ} → p ≡ defaultOf Payload r → q ≡ defaultOf Period r → d ≡ defaultOf Deadline r
-      → a ≡ cond (eqb (r .payload) p) 0 (weightOf Payload) → b ≡ cond (eqb (r .period) q) 0 (weightOf Period) → e ≡ cond (eqb (r .deadline) d) 0 (weightOf Deadline) → k ≡ classBit (r .class) → a + b + e + k ≡ mapByte r
+  -- a row with a period states it unless it is the default, and no rate
+  pub period-stated : {p d b : ℕ} → r .pace ≡ paces.Period p → d ≡ defaultPeriod r → b ≡ cond (not (eqb p d)) (weightOf Period) 0 → b ≡ bitFor Period r + bitFor Rate r
+  unfolding defaultPeriod
+  period-stated e ed eb = rw (e, eb, ed) (omega arith)
+
+  -- a rated row states its rate, and no period
+  pub rate-stated : {h n : ℕ} → r .pace ≡ paces.Rated h n → weightOf Rate ≡ bitFor Period r + bitFor Rate r
+  rate-stated e = rw e refl
+
+  pub map-is : {p d a b e k : ℕ} → p ≡ defaultPayload r → d ≡ defaultDeadline r
+      → a ≡ cond (not (eqb (r .payload) p)) (weightOf Payload) 0 → e ≡ cond (not (eqb (r .deadline) d)) (weightOf Deadline) 0 → b ≡ bitFor Period r + bitFor Rate r → k ≡ classBit (r .class) → a + b + e + k ≡ mapByte r
   unfolding mapByte
-  map-is ep eq ed ea eb ee ek = rw (ea, eb, ee, ek, ep, eq, ed) refl
+  map-is ep ed ea ee eb ek = rw (ea, eb, ee, ek, ep, ed) (omega arith)
 
-  module _ {m : ℕ} (em : m ≡ mapByte r) where
-    pub size-is : {n : ℕ} → n ≡ rowSize m → n ≡ length (rowBytes r)
-    size-is e = e ∙ rw em (sym (row-length r))
+-- ---- a row
+-- the stores so far, from the front on, and where they end
+pub record Stored (xs x done : List ℕ) (n : ℕ) : Type 0 where
+  pub stores : x ≡ sets xs 0 done
+  pub end : length done ≡ n
 
-    part-is : (f : Field) {b : Bool} → b ≡ bitOf f m → cond b (bytesOf (widthOf f) (valueOf f r)) [] ≡ fieldBytes f r
-    part-is f e = rw (e, em) refl
+-- parts that share a bit
+both : (b : Bool) (p q : List ℕ) → cond b (p ++ q) [] ≡ cond b p [] ++ cond b q []
+both true p q = refl
+both false p q = refl
 
-    -- a field lies within the row
-    lies-within : (f : Field) → placeOf f (mapByte r) + length (fieldBytes f r) ≤ length (rowBytes r)
-    lies-within Payload = omega (arith, row-length r, field-size Payload r)
-    lies-within Period = omega (arith, row-length r, field-size Period r)
-    lies-within Deadline = omega (arith, row-length r, field-size Deadline r)
+module _ (r : Row) {m : ℕ} (em : m ≡ mapByte r) where
+  pub size-is : {n : ℕ} → n ≡ rowSize m → n ≡ length (rowBytes r)
+  size-is e = e ∙ rw em (sym (row-length r))
 
-    pub field-room : (f : Field) {b : Bool} {at : ℕ} → b ≡ bitOf f m → at ≡ placeOf f m → at + length (cond b (bytesOf (widthOf f) (valueOf f r)) []) ≤ length (rowBytes r)
-    field-room f eb ea = rw (part-is f eb, ea, em) (lies-within f)
+  pub map-stored : (xs : List ℕ) {x : List ℕ} → x ≡ set xs 0 m → Stored xs x (mapByte r ∷ []) 1
+  map-stored xs e = record { stores = rw em at e; end = refl }
 
-    -- the stores of a row, one behind the other
-    pub row-stored :
-        (xs : List ℕ) {bp bq bd : Bool} {q d : ℕ} {w x y z : List ℕ}
-        → length (rowBytes r) ≤ length xs
-        → w ≡ set xs 0 m
-        → bp ≡ bitOf Payload m → x ≡ sets w 1 (cond bp (bytesOf 2 (r .payload)) [])
-        → bq ≡ bitOf Period m → q ≡ placeOf Period m → y ≡ sets x q (cond bq (bytesOf 4 (r .period)) [])
-        → bd ≡ bitOf Deadline m → d ≡ placeOf Deadline m → z ≡ sets y d (cond bd (bytesOf 4 (r .deadline)) [])
-        → z ≡ rowBytes r ++ drop (length (rowBytes r)) xs
+  -- a field lies within the row
+  lies-within : (f : Field) → placeOf f (mapByte r) + sizeIn f (mapByte r) ≤ rowSize (mapByte r)
+  lies-within Payload = omega arith
+  lies-within Period = omega arith
+  lies-within Deadline = omega arith
+  lies-within Rate = omega arith
+  lies-within Samples = omega arith
+
+  module _ (f : Field) {b : Bool} {at v : ℕ} (eb : b ≡ bitOf f m) (ea : at ≡ placeOf f m) (ev : v ≡ valueOf f r) where
+    part-is : cond b (bytesOf (widthOf f) v) [] ≡ fieldBytes f r
+    part-is = rw (eb, em, ev) refl
+
+    pub field-room : at + length (cond b (bytesOf (widthOf f) v) []) ≤ length (rowBytes r)
+    field-room = rw (part-is, ea, em, field-size f r, row-length r) (lies-within f)
+
+    pub field-stored : {xs x y done : List ℕ} → Stored xs x done (placeOf f (mapByte r)) → y ≡ sets x at (cond b (bytesOf (widthOf f) v) []) → Stored xs y (done ++ fieldBytes f r) (placeOf f (mapByte r) + sizeIn f (mapByte r))
+    field-stored {xs} {x} {done = done} e ey =
+        record {
+          stores = ey ∙ ap (sets x at) part-is ∙ sets-next done (fieldBytes f r) xs (e .stores) (ea ∙ rw em (sym (e .end)));
+          end = length-append done (fieldBytes f r) ∙ rw (e .end, field-size f r) refl;
+        }
+
+  -- rate and samples, the last fields, share a bit
+  module _ {b : Bool} {at : ℕ} (eb : b ≡ bitOf Rate m) (ea : at ≡ placeOf Rate m) where
+    rated-is : cond b (ratedBytes (r .pace)) [] ≡ fieldBytes Rate r ++ fieldBytes Samples r
+    unfolding bitOf
+    rated-is = rw (eb, em) (both (bitOf Rate (mapByte r)) (bytesOf 4 (rateOf (r .pace))) (bytesOf 1 (samplesOf (r .pace))))
+
+    pub rated-room : at + length (cond b (ratedBytes (r .pace)) []) ≤ length (rowBytes r)
+    rated-room = rw (rated-is, ea, em, length-append, field-size Rate r, field-size Samples r, row-length r) (omega arith)
+
+    pub row-stored : (xs : List ℕ) {x y : List ℕ} → length (rowBytes r) ≤ length xs → Stored xs x (mapByte r ∷ fieldBytes Payload r ++ fieldBytes Period r ++ fieldBytes Deadline r) (placeOf Rate (mapByte r))
+        → y ≡ sets x at (cond b (ratedBytes (r .pace)) []) → y ≡ rowBytes r ++ drop (length (rowBytes r)) xs
     unfolding rowBytes
-    row-stored xs {w = w} {x = x} {y = y} h ew ep ex eq pq ey ed pd ez =
-        let one : x ≡ sets xs 0 (mapByte r ∷ fieldBytes Payload r) = ex ∙ rw (part-is Payload ep, ew, em) refl in
-        let two : y ≡ sets xs 0 (mapByte r ∷ fieldBytes Payload r ++ fieldBytes Period r) =
-        ey ∙ ap (sets x _) (part-is Period eq) ∙ sets-next (mapByte r ∷ fieldBytes Payload r) (fieldBytes Period r) xs one (pq ∙ rw em (omega (arith, field-size Payload r))) in
-        ez ∙ ap (sets y _) (part-is Deadline ed)
-        ∙ sets-next (mapByte r ∷ fieldBytes Payload r ++ fieldBytes Period r) (fieldBytes Deadline r) xs two
-        (pd ∙ rw em (omega (arith, field-size Payload r, field-size Period r, length-append (fieldBytes Payload r) (fieldBytes Period r))))
-        ∙ sets-front (rowBytes r) xs h
+    row-stored xs {x} h e ey =
+        let done = mapByte r ∷ fieldBytes Payload r ++ fieldBytes Period r ++ fieldBytes Deadline r in
+        ey ∙ ap (sets x at) rated-is ∙ sets-next done (fieldBytes Rate r ++ fieldBytes Samples r) xs (e .stores) (ea ∙ rw em (sym (e .end)))
+        ∙ ap (sets xs 0) (sym (append-assoc done (fieldBytes Rate r) (fieldBytes Samples r))) ∙ sets-front (rowBytes r) xs h

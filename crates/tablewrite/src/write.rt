@@ -7,8 +7,9 @@ ghost use lib.ListN.{length, set, drop};
 ghost use lib.Seq.{sets};
 ghost use Rattle.table.specs.Limits.{mostRows};
 ghost use Rattle.table.specs.Rows.{rowsOf, contents};
-ghost use Rattle.tablefile.specs.Layout.{letters, headerSize, bytesOf};
-ghost use Rattle.tablefile.specs.Writing.{mapByte, rowBytes, rowsBytes, headerBytes, fileOf, Writes};
+ghost use Rattle.tablefile.specs.Layout.{letters, headerSize, bytesOf, Period, Rate, rateOf, samplesOf};
+ghost use Rattle.tablefile.specs.Writing.{bitFor, mapByte, rowBytes, rowsBytes, headerBytes, fileOf, Writes};
+use table::Pace;
 use table::Row;
 use table::Table;
 use table::Verdict;
@@ -24,6 +25,8 @@ use tablefile::layout::LETTERS;
 use tablefile::layout::PAYLOAD_PLACE;
 use tablefile::layout::PAYLOAD_WEIGHT;
 use tablefile::layout::PERIOD_WEIGHT;
+use tablefile::layout::RATE_WEIGHT;
+use tablefile::layout::RATE_WIDTH;
 use tablefile::layout::class_bit;
 use tablefile::layout::deadline_place;
 use tablefile::layout::deadline_stands;
@@ -33,7 +36,12 @@ use tablefile::layout::default_period;
 use tablefile::layout::payload_stands;
 use tablefile::layout::period_place;
 use tablefile::layout::period_stands;
+use tablefile::layout::rate;
+use tablefile::layout::rate_place;
+use tablefile::layout::rate_stands;
 use tablefile::layout::row_size;
+use tablefile::layout::samples;
+use tablefile::layout::stated;
 
 // Every byte of a file is stored here.
 fn put(out: &mut [u8], at: usize, b: u8)
@@ -83,25 +91,39 @@ fn write_header(t: Table, out: &mut [u8])
     put(out, COUNT_PLACE, t.count as u8);
 }
 
-// A bit of a map byte: none for a field at its default.
-fn bit_for(usual: bool, bit: u8) -> u8
-    ensures { λ r. ⌜ r ≡ cond usual 0 bit ⌝ }
+// A bit of a map byte: none for a field that is not stated.
+fn bit_for(states: bool, bit: u8) -> u8
+    ensures { λ r. ⌜ r ≡ cond states bit 0 ⌝ }
     ensures small { λ r. ⌜ r ≤ bit ⌝ }
 {
-    if usual {
-        return 0;
+    if states {
+        return bit;
     }
-    bit
+    0
+}
+
+// The bit of the pace: a rated row has the rate's, and one with a period that is not the default the period's.
+fn pace_bit(row: Row) -> u8
+    ensures { λ r. ⌜ r ≡ bitFor Period row + bitFor Rate row ⌝ }
+    ensures small { λ r. ⌜ r ≤ 8 ⌝ }
+{
+    let pace = row.pace;
+    match pace {
+        Pace::Period(p) => bit_for(p != default_period(row), PERIOD_WEIGHT),
+        Pace::Rated(_, _) => RATE_WEIGHT,
+    }
 }
 
 fn map_byte(row: Row) -> u8
     ensures { λ r. ⌜ r ≡ mapByte row ⌝ }
 {
     let class = row.class;
-    let payload = bit_for(row.payload == default_payload(row), PAYLOAD_WEIGHT);
-    let period = bit_for(row.period == default_period(row), PERIOD_WEIGHT);
-    let deadline = bit_for(row.deadline == default_deadline(row), DEADLINE_WEIGHT);
-    payload + period + deadline + class_bit(class)
+    let payload = bit_for(row.payload != default_payload(row), PAYLOAD_WEIGHT);
+    let deadline = bit_for(
+        row.deadline as u64 != default_deadline(row),
+        DEADLINE_WEIGHT,
+    );
+    payload + pace_bit(row) + deadline + class_bit(class)
 }
 
 // A field, if its bit stands.
@@ -125,17 +147,31 @@ fn put_field32(out: &mut [u8], at: usize, stands: bool, value: u32)
     put32(out, at, value);
 }
 
+// The rate and the samples behind it, if their bit stands.
+fn put_rated(out: &mut [u8], at: usize, stands: bool, pace: Pace)
+    requires { ⌜ at + length (cond stands (bytesOf 4 (rateOf pace) ++ bytesOf 1 (samplesOf pace)) []) ≤ length (now out) ⌝ }
+    ensures { λ _. ⌜ now (out .exit) ≡ sets (now (out .entry)) at (cond stands (bytesOf 4 (rateOf pace) ++ bytesOf 1 (samplesOf pace)) []) ⌝ }
+{
+    if !stands {
+        return;
+    }
+    put32(out, at, rate(pace));
+    put(out, at + RATE_WIDTH, samples(pace));
+}
+
 // A row at the start of a buffer, and how many bytes it has. All goes by the map byte.
 fn write_row(row: Row, out: &mut [u8]) -> usize
     requires { ⌜ length (rowBytes row) ≤ length (now out) ⌝ }
     ensures { λ r. ⌜ r ≡ length (rowBytes row) ⌝ }
     ensures { λ _. ⌜ now (out .exit) ≡ rowBytes row ++ drop (length (rowBytes row)) (now (out .entry)) ⌝ }
 {
+    let pace = row.pace;
     let map = map_byte(row);
     put(out, 0, map);
     put_field16(out, PAYLOAD_PLACE, payload_stands(map), row.payload);
-    put_field32(out, period_place(map), period_stands(map), row.period);
+    put_field32(out, period_place(map), period_stands(map), stated(pace));
     put_field32(out, deadline_place(map), deadline_stands(map), row.deadline);
+    put_rated(out, rate_place(map), rate_stands(map), pace);
     row_size(map)
 }
 

@@ -45,7 +45,10 @@ impl Driver {
     /// How long until a row may be offered to again.
     pub fn wait(&self, row: usize) -> u64 {
         match self.port.last[row] {
-            Some(last) => (last + self.port.table.rows[row].period).saturating_sub(self.port.clock),
+            Some(last) => {
+                let next = last + self.port.table.rows[row].period();
+                next.saturating_sub(self.port.clock)
+            }
             None => 0,
         }
     }

@@ -29,7 +29,7 @@ pub fn damaged(random: &mut Random, file: &[u8]) -> Vec<u8> {
         file[at] = match random.below(3) {
             0 => random.word() as u8,
             1 => file[at] ^ 1 << random.below(8),
-            _ => random.between(0, 8) as u8,
+            _ => random.between(0, 16) as u8,
         };
     }
     if random.one_in(4) {
@@ -44,7 +44,7 @@ pub fn damaged(random: &mut Random, file: &[u8]) -> Vec<u8> {
 
 /// Random bytes, at times behind the right letters or a right header.
 pub fn noise(random: &mut Random) -> Vec<u8> {
-    let len = random.between(0, 400) as usize;
+    let len = random.between(0, 430) as usize;
     let mut file = random.bytes(len);
     let right = random.pick(&[0, 4, 14, 15, 16]).min(len);
     file[..right].copy_from_slice(&specimen::FILE[..right]);

@@ -7,6 +7,7 @@ pub mod files;
 pub mod lines;
 pub mod ports;
 pub mod random;
+pub mod rates;
 pub mod specimen;
 pub mod tables;
 pub mod traffic;

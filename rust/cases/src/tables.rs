@@ -3,8 +3,11 @@
 use std::iter;
 
 use simulator::file::{default_period, DEFAULT_PAYLOAD};
-use simulator::table::{D, MOST_IDLE_TOGETHER, MOST_ROWS, PAYLOAD_RANGE, PERIOD_RANGE};
-use simulator::{bounds, wire_size, Class, Row, Table};
+use simulator::table::{
+    D, MOST_IDLE_TOGETHER, MOST_ROWS, PAYLOAD_RANGE, PERIOD_RANGE, RATE_RANGE, SAMPLES_RANGE,
+    SECOND,
+};
+use simulator::{bounds, wire_size, Class, Pace, Row, Table};
 
 use crate::random::Random;
 
@@ -21,8 +24,19 @@ pub fn row(class: Class, payload: u64, period: u64, deadline: u64) -> Row {
     Row {
         class,
         payload,
-        period,
+        pace: Pace::Period(period),
         deadline,
+    }
+}
+
+/// A row that names a sample rate, with its period as its deadline.
+pub fn rated(class: Class, payload: u64, rate: u64, samples: u64) -> Row {
+    let pace = Pace::Rated { rate, samples };
+    Row {
+        class,
+        payload,
+        pace,
+        deadline: pace.period(),
     }
 }
 
@@ -33,7 +47,7 @@ pub fn accepted(random: &mut Random) -> Table {
 
 /// An accepted table whose periods are at most `longest`.
 pub fn within(random: &mut Random, longest: u64) -> Table {
-    let short = |table: &Table| table.rows.iter().all(|row| row.period <= longest);
+    let short = |table: &Table| table.rows.iter().all(|row| row.period() <= longest);
     first_accepted(|| proposed(random), short)
 }
 
@@ -164,17 +178,36 @@ fn fit(random: &mut Random, table: &mut Table, stretched: bool) {
         let part = (figures[class].idle * weight / totals[class]).max(1);
         let bound = figures[class].bound(wire_size(row.payload));
         let least = (D * row.size()).div_ceil(part).max(bound);
-        row.period = match random.below(16) {
+        let period = match random.below(16) {
             0 if stretched => LONGEST.max(least),
             1..=4 if stretched => least + random.between(0, least),
             _ => least,
         };
+        row.pace = paced(random, period);
         row.deadline = match random.below(4) {
             0 => bound,
-            1 => row.period,
-            _ => random.between(bound, row.period),
+            1 => row.period(),
+            _ => random.between(bound, row.period()),
         };
     }
+}
+
+/// A period, or at times a rate whose period is no shorter and not much longer.
+fn paced(random: &mut Random, period: u64) -> Pace {
+    let (slowest, fastest) = RATE_RANGE.into_inner();
+    let most = *SAMPLES_RANGE.end();
+    let samples = |rate: u64| (period * rate).div_ceil(SECOND);
+    if random.one_in(2) || samples(slowest) > most {
+        return Pace::Period(period);
+    }
+    let rate = random.pick(&[44_100, 48_000, 96_000, 192_000]);
+    if random.one_in(2) && samples(rate) <= most {
+        let samples = samples(rate);
+        return Pace::Rated { rate, samples };
+    }
+    let samples = random.between(samples(slowest), samples(fastest).min(most));
+    let rate = (samples * SECOND / period).min(fastest);
+    Pace::Rated { rate, samples }
 }
 
 /// Gives some of the rows' values their defaults, which a file leaves out.
@@ -184,11 +217,19 @@ pub fn set_defaults(random: &mut Random, table: &mut Table) {
             row.payload = DEFAULT_PAYLOAD;
         }
         if random.one_in(3) {
-            row.period = default_period(row.class);
-            row.deadline = random.between(1, row.period);
+            let period = default_period(row.class);
+            row.pace = match random.below(3) {
+                // A rate with the same period is no default.
+                0 => Pace::Rated {
+                    rate: 48_000,
+                    samples: period * 48_000 / SECOND,
+                },
+                _ => Pace::Period(period),
+            };
+            row.deadline = random.between(1, row.period());
         }
         if random.one_in(3) {
-            row.deadline = row.period;
+            row.deadline = row.period();
         }
     }
 }
@@ -210,7 +251,7 @@ pub fn change(random: &mut Random, table: &mut Table) {
     let place = random.below(table.rows.len());
     let class = table.rows[place].class;
     let off = random.between(0, 1);
-    match random.below(12) {
+    match random.below(13) {
         0 => late(table, place, off),
         1 => {
             let shares = shares(table, class);
@@ -225,19 +266,29 @@ pub fn change(random: &mut Random, table: &mut Table) {
         5 => table.rows[place].class = opposite(class),
         6 => {
             let edges = [83, 84, 15_625, 31_250, LONGEST, LONGEST + 1];
-            table.rows[place].period = random.pick(&edges);
+            table.rows[place].pace = Pace::Period(random.pick(&edges));
         }
         7 => table.rows[place].payload = random.pick(&[0, 42, 43, 1500, 1501, 65_535]),
         8 => {
-            let period = table.rows[place].period;
+            let period = table.rows[place].period();
             table.rows[place].deadline = random.pick(&[0, 1, period, period + 1]);
         }
         9 => *idle(table, class) = random.pick(&[1, 750_000, 750_001, u64::from(u32::MAX)]),
         10 => table.best_payload = random.pick(&[0, 1500, 1501, 65_535]),
+        11 => table.rows[place].pace = rated_edge(random),
         _ => {
             let row = table.rows[place];
             table.rows.resize(random.pick(&[0, 1, 32, 33, 255]), row);
         }
+    }
+}
+
+/// A rate and samples at an edge.
+fn rated_edge(random: &mut Random) -> Pace {
+    let rates = [0, 999, 1_000, 44_100, 48_000, 200_000, 200_001, 1 << 31];
+    Pace::Rated {
+        rate: random.pick(&rates),
+        samples: random.pick(&[0, 1, 6, 12, 254, 255]),
     }
 }
 
@@ -248,9 +299,10 @@ pub fn late(table: &mut Table, place: usize, off: u64) {
     }
 }
 
-/// The sum of a class's shares, where its periods are not 0.
+/// The sum of a class's shares, of the rows whose periods are not 0.
 fn shares(table: &Table, class: Class) -> u64 {
-    let of_class = table.rows.iter().filter(|row| row.class == class);
+    let rows = table.rows.iter();
+    let of_class = rows.filter(|row| row.class == class && row.period() > 0);
     of_class.map(Row::share).sum()
 }
 

@@ -85,7 +85,7 @@ impl Watch<'_> {
             None => refuse(11, 0),
             Some(row) if payload > row.payload => refuse(12, 0),
             Some(row) => match self.last[place] {
-                Some(last) if self.clock - last < row.period => refuse(13, 0),
+                Some(last) if self.clock - last < row.period() => refuse(13, 0),
                 _ => Ok(TAKEN),
             },
         }

@@ -3,8 +3,9 @@
 use std::collections::VecDeque;
 
 use ithumeco::{FrameWords, QueueWords, Record, RowWords, WireWords, VERSION};
-use simulator::{Class, Frame, Mark, Port, Row, Table, Wire};
+use simulator::{Class, Frame, Mark, Pace, Port, Row, Table, Wire};
 
+const U8: u64 = u8::MAX as u64;
 const U16: u64 = u16::MAX as u64;
 const U32: u64 = u32::MAX as u64;
 
@@ -36,7 +37,15 @@ fn queue_fits<const PLACES: usize>(queue: &QueueWords<PLACES>) -> bool {
 }
 
 fn row_fits(row: &RowWords) -> bool {
-    row.class <= 1 && row.payload <= U16 && row.period <= U32 && row.deadline <= U32
+    row.class <= 1 && row.payload <= U16 && row.deadline <= U32 && pace_fits(row)
+}
+
+fn pace_fits(row: &RowWords) -> bool {
+    match row.rated {
+        0 => row.pace <= U32,
+        1 => row.pace <= U32 && row.samples <= U8,
+        _ => false,
+    }
 }
 
 fn frame_fits(frame: &FrameWords) -> bool {
@@ -89,7 +98,13 @@ fn row_of(row: &RowWords) -> Row {
             _ => Class::B,
         },
         payload: row.payload,
-        period: row.period,
+        pace: match row.rated {
+            0 => Pace::Period(row.pace),
+            _ => Pace::Rated {
+                rate: row.pace,
+                samples: row.samples,
+            },
+        },
         deadline: row.deadline,
     }
 }

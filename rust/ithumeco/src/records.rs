@@ -2,26 +2,29 @@
 
 use std::collections::VecDeque;
 
-use simulator::{Class, Frame, Port, Wire};
+use simulator::{Class, Frame, Pace, Port, Row, Wire};
 
 use crate::words::{put_words, words, WORD_SIZE};
 
 /// The version of the layout, a record's first word.
-pub const VERSION: u64 = 1_000_001;
+pub const VERSION: u64 = 1_000_002;
 
 /// The size of a record in words.
-pub const RECORD_WORDS: usize = 448;
+pub const RECORD_WORDS: usize = 512;
 
 /// The size of a record in bytes.
 pub const RECORD_SIZE: usize = RECORD_WORDS * WORD_SIZE;
 
-/// A row: class (0 A, 1 B), payload, period, deadline.
+/// A row: class (0 A, 1 B), payload, deadline; a mark, 1 if it names a sample
+/// rate, else 0; the rate or the period; and behind a rate the samples.
 #[derive(Clone, Copy, Debug, Default, PartialEq, Eq)]
 pub struct RowWords {
     pub class: u64,
     pub payload: u64,
-    pub period: u64,
     pub deadline: u64,
+    pub rated: u64,
+    pub pace: u64,
+    pub samples: u64,
 }
 
 /// A frame: its row or 32 for best effort, wire size, instant taken.
@@ -131,8 +134,10 @@ impl Record {
         for row in &mut self.rows {
             visit(&mut row.class);
             visit(&mut row.payload);
-            visit(&mut row.period);
             visit(&mut row.deadline);
+            visit(&mut row.rated);
+            visit(&mut row.pace);
+            visit(&mut row.samples);
         }
         visit(&mut self.clock);
         visit(&mut self.credit_a);
@@ -174,6 +179,23 @@ fn frame_words(frame: &Frame) -> FrameWords {
     }
 }
 
+impl RowWords {
+    fn store(&mut self, row: &Row) {
+        self.class = match row.class {
+            Class::A => 0,
+            Class::B => 1,
+        };
+        self.payload = row.payload;
+        self.deadline = row.deadline;
+        match row.pace {
+            Pace::Period(period) => (self.rated, self.pace) = (0, period),
+            Pace::Rated { rate, samples } => {
+                (self.rated, self.pace, self.samples) = (1, rate, samples)
+            }
+        }
+    }
+}
+
 impl<const PLACES: usize> QueueWords<PLACES> {
     fn store(&mut self, waiting: &VecDeque<Frame>) {
         self.count = waiting.len() as u64;
@@ -193,15 +215,7 @@ impl Record {
         self.best_payload = table.best_payload;
         self.count = table.rows.len() as u64;
         for (place, row) in self.rows.iter_mut().zip(&table.rows) {
-            *place = RowWords {
-                class: match row.class {
-                    Class::A => 0,
-                    Class::B => 1,
-                },
-                payload: row.payload,
-                period: row.period,
-                deadline: row.deadline,
-            };
+            place.store(row);
         }
         self.clock = port.clock;
         self.credit_a = port.credit_a as u64;

@@ -4,7 +4,8 @@ use std::ops::RangeInclusive;
 
 use crate::refusal::{refuse, Refusal};
 use crate::table::{
-    check_ranges, Class, Row, Table, IDLE_RANGE, MOST_ROWS, PAYLOAD_RANGE, PERIOD_RANGE,
+    check_ranges, Class, Pace, Row, Table, IDLE_RANGE, MOST_ROWS, PAYLOAD_RANGE, PERIOD_RANGE,
+    RATE_RANGE, SAMPLES_RANGE,
 };
 
 /// "The header, 15 bytes"
@@ -19,8 +20,11 @@ const PAYLOAD_BIT: u8 = 1 << 0;
 const PERIOD_BIT: u8 = 1 << 1;
 /// "bit 2 deadline u32"
 const DEADLINE_BIT: u8 = 1 << 2;
-/// "a map bit of 3 to 6"
-const UNUSED_BITS: u8 = 0b0111_1000;
+/// C-11: "map bit 3 in place of bit 1: rate u32 ... and samples per frame u8
+/// ..., after the deadline field"
+const RATE_BIT: u8 = 1 << 3;
+/// C-11: "Map bits 4 to 6 stay with 4"
+const UNUSED_BITS: u8 = 0b0111_0000;
 /// "bit 7 set for class B, without a field"
 const CLASS_B_BIT: u8 = 1 << 7;
 
@@ -95,9 +99,13 @@ fn read_row(file: &[u8], at: &mut usize) -> Result<Row, Refusal> {
     let Some(&map) = file.get(*at) else {
         return refuse(1, *at);
     };
-    // "4, a map bit of 3 to 6."
+    // "4, a map bit of 3 to 6", by C-11 of 4 to 6.
     if map & UNUSED_BITS != 0 {
         return refuse(4, *at);
+    }
+    // C-11: "19, bits 1 and 3 both set, after 4, at the map byte."
+    if map & PERIOD_BIT != 0 && map & RATE_BIT != 0 {
+        return refuse(19, *at);
     }
     *at += 1;
     let class = if map & CLASS_B_BIT != 0 {
@@ -108,48 +116,73 @@ fn read_row(file: &[u8], at: &mut usize) -> Result<Row, Refusal> {
 
     let mut payload = DEFAULT_PAYLOAD;
     if map & PAYLOAD_BIT != 0 {
-        payload = read_field(file, at, 2, PAYLOAD_RANGE, DEFAULT_PAYLOAD)?;
+        let field = Field::read(file, at, 2)?.within(PAYLOAD_RANGE)?;
+        payload = field.other_than(DEFAULT_PAYLOAD)?;
     }
-    let mut period = default_period(class);
+    let mut pace = Pace::Period(default_period(class));
     if map & PERIOD_BIT != 0 {
-        period = read_field(file, at, 4, PERIOD_RANGE, default_period(class))?;
+        let field = Field::read(file, at, 4)?.within(PERIOD_RANGE)?;
+        pace = Pace::Period(field.other_than(default_period(class))?);
     }
-    // "deadline the row's period"
-    let mut deadline = period;
+    let mut stated_deadline = None;
     if map & DEADLINE_BIT != 0 {
-        deadline = read_field(file, at, 4, 1..=period, period)?;
+        stated_deadline = Some(Field::read(file, at, 4)?);
+    }
+    if map & RATE_BIT != 0 {
+        let rate = Field::read(file, at, 4)?.within(RATE_RANGE)?.value;
+        let samples = Field::read(file, at, 1)?.within(SAMPLES_RANGE)?.value;
+        pace = Pace::Rated { rate, samples };
+    }
+    // "deadline the row's period". C-11: "The deadline's range and default are
+    // then judged after the samples field, at the deadline's own offset."
+    let period = pace.period();
+    let mut deadline = period;
+    if let Some(field) = stated_deadline {
+        deadline = field.within(1..=period)?.other_than(period)?;
     }
     Ok(Row {
         class,
         payload,
-        period,
+        pace,
         deadline,
     })
 }
 
 /// A field of a row that stands in the file.
-fn read_field(
-    file: &[u8],
-    at: &mut usize,
-    size: usize,
-    range: RangeInclusive<u64>,
-    default: u64,
-) -> Result<u64, Refusal> {
-    // "1, the file ends inside ... a field."
-    let Some(bytes) = file.get(*at..*at + size) else {
-        return refuse(1, *at);
-    };
-    let value = big_endian(bytes);
-    // "5, out of range."
-    if !range.contains(&value) {
-        return refuse(5, *at);
+struct Field {
+    at: usize,
+    value: u64,
+}
+
+impl Field {
+    /// "1, the file ends inside ... a field."
+    fn read(file: &[u8], at: &mut usize, size: usize) -> Result<Field, Refusal> {
+        let Some(bytes) = file.get(*at..*at + size) else {
+            return refuse(1, *at);
+        };
+        let field = Field {
+            at: *at,
+            value: big_endian(bytes),
+        };
+        *at += size;
+        Ok(field)
     }
-    // "6, a field stating its default."
-    if value == default {
-        return refuse(6, *at);
+
+    /// "5, out of range."
+    fn within(self, range: RangeInclusive<u64>) -> Result<Field, Refusal> {
+        if !range.contains(&self.value) {
+            return refuse(5, self.at);
+        }
+        Ok(self)
     }
-    *at += size;
-    Ok(value)
+
+    /// "6, a field stating its default."
+    fn other_than(self, default: u64) -> Result<u64, Refusal> {
+        if self.value == default {
+            return refuse(6, self.at);
+        }
+        Ok(self.value)
+    }
 }
 
 /// Writing gives the file's size.
@@ -191,13 +224,21 @@ pub fn file_stating(table: &Table, mut stated: impl FnMut() -> bool) -> Vec<u8> 
             map |= PAYLOAD_BIT;
             file.extend_from_slice(&(row.payload as u16).to_be_bytes());
         }
-        if row.period != default_period(row.class) || stated() {
-            map |= PERIOD_BIT;
-            file.extend_from_slice(&(row.period as u32).to_be_bytes());
+        if let Pace::Period(period) = row.pace {
+            if period != default_period(row.class) || stated() {
+                map |= PERIOD_BIT;
+                file.extend_from_slice(&(period as u32).to_be_bytes());
+            }
         }
-        if row.deadline != row.period || stated() {
+        if row.deadline != row.period() || stated() {
             map |= DEADLINE_BIT;
             file.extend_from_slice(&(row.deadline as u32).to_be_bytes());
+        }
+        // A rate and its samples have no default.
+        if let Pace::Rated { rate, samples } = row.pace {
+            map |= RATE_BIT;
+            file.extend_from_slice(&(rate as u32).to_be_bytes());
+            file.push(samples as u8);
         }
         file[map_at] = map;
     }

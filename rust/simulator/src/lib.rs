@@ -1,8 +1,9 @@
 //! A byte-time simulator of one gigabit output port with credit-based
 //! shaping, its planner, its table files and its two programs.
 //!
-//! The simulator follows the rules of the full scope one by one. In the
-//! modules each rule stands in quotation marks above the lines that do it.
+//! The simulator follows the rules of the full scope one by one, and of the
+//! requests that came after it. In the modules each rule stands in quotation
+//! marks above the lines that do it, one of a request behind its number.
 
 pub mod call;
 pub mod file;
@@ -16,4 +17,4 @@ pub use file::{file_of, read, write};
 pub use port::{broken, Advance, Frame, Mark, Port, Wire};
 pub use programs::{opened, portrun, portsheet};
 pub use refusal::Refusal;
-pub use table::{bounds, open, wire_size, Class, Row, Table};
+pub use table::{bounds, open, wire_size, Class, Pace, Row, Table};

@@ -299,7 +299,7 @@ impl Port {
         // "13, early": "clock − last taken instant < P; a first frame is never
         // early"
         if let Some(last) = self.last[place] {
-            if self.clock - last < row.period {
+            if self.clock - last < row.period() {
                 return refuse(13, 0);
             }
         }

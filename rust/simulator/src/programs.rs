@@ -29,7 +29,7 @@ fn sheet(input: &[u8]) -> Result<String, Refusal> {
             Class::A => 'A',
             Class::B => 'B',
         };
-        let (size, period, deadline) = (row.size(), row.period, row.deadline);
+        let (size, period, deadline) = (row.size(), row.period(), row.deadline);
         let bound = bounds[place];
         writeln!(text, "{place} {class} {size} {period} {deadline} {bound}").unwrap();
     }

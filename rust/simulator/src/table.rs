@@ -19,6 +19,15 @@ pub const PAYLOAD_RANGE: RangeInclusive<u64> = 0..=1500;
 /// "period P (84 to 1,000,000,000 byte-times)"
 pub const PERIOD_RANGE: RangeInclusive<u64> = 84..=1_000_000_000;
 
+/// C-11: "rate u32 (1,000 to 200,000 Hz)"
+pub const RATE_RANGE: RangeInclusive<u64> = 1_000..=200_000;
+
+/// C-11: "samples per frame u8 (1 to 255)"
+pub const SAMPLES_RANGE: RangeInclusive<u64> = 1..=255;
+
+/// The byte-times of a second: "samples × 125,000,000 / rate"
+pub const SECOND: u64 = 125_000_000;
+
 /// "IA + IB ≤ 750,000"
 pub const MOST_IDLE_TOGETHER: u64 = 750_000;
 
@@ -32,13 +41,47 @@ pub enum Class {
     B,
 }
 
+/// C-11: "The table remembers which way the period was given."
+#[derive(Clone, Copy, Debug, PartialEq, Eq)]
+pub enum Pace {
+    /// A period in byte-times.
+    Period(u64),
+    /// A sample rate in Hz, and the samples of a frame.
+    Rated { rate: u64, samples: u64 },
+}
+
+impl Pace {
+    /// "period P (84 to 1,000,000,000 byte-times)", or by C-11 a rate and
+    /// samples in their ranges.
+    pub fn in_range(&self) -> bool {
+        match self {
+            Pace::Period(period) => PERIOD_RANGE.contains(period),
+            Pace::Rated { rate, samples } => {
+                RATE_RANGE.contains(rate) && SAMPLES_RANGE.contains(samples)
+            }
+        }
+    }
+
+    /// C-11: "Its period is samples × 125,000,000 / rate, rounded down". Values
+    /// out of range have one too: 0 at a rate of 0.
+    pub fn period(&self) -> u64 {
+        match *self {
+            Pace::Period(period) => period,
+            Pace::Rated { rate, samples } => {
+                let of_one_hertz = samples.saturating_mul(SECOND);
+                of_one_hertz.checked_div(rate).unwrap_or(0)
+            }
+        }
+    }
+}
+
 /// "A row has class A or B, payload, period P and deadline." The numbers may
 /// hold anything until the table is opened.
 #[derive(Clone, Copy, Debug, PartialEq, Eq)]
 pub struct Row {
     pub class: Class,
     pub payload: u64,
-    pub period: u64,
+    pub pace: Pace,
     pub deadline: u64,
 }
 
@@ -64,9 +107,15 @@ impl Row {
         wire_size(self.payload)
     }
 
+    /// P. C-11: "a stream is early, and is promised its delay, by its rounded
+    /// period"
+    pub fn period(&self) -> u64 {
+        self.pace.period()
+    }
+
     /// "A row's share is D × C / P, rounded up." The row's values are in range.
     pub fn share(&self) -> u64 {
-        (D * self.size()).div_ceil(self.period)
+        (D * self.size()).div_ceil(self.period())
     }
 }
 
@@ -173,7 +222,8 @@ pub fn check_ranges(table: &Table) -> Result<(), Refusal> {
         return refuse(3, 0);
     }
     // "5, a value out of range, place its row, or 32 for a header value
-    // (header first; in a row payload, period, deadline)."
+    // (header first; in a row payload, period, deadline)." C-11: "Opening checks
+    // rate and samples under 5 where the period is checked."
     if !IDLE_RANGE.contains(&table.idle_a)
         || !IDLE_RANGE.contains(&table.idle_b)
         || !PAYLOAD_RANGE.contains(&table.best_payload)
@@ -182,9 +232,9 @@ pub fn check_ranges(table: &Table) -> Result<(), Refusal> {
     }
     for (place, row) in table.rows.iter().enumerate() {
         if !PAYLOAD_RANGE.contains(&row.payload)
-            || !PERIOD_RANGE.contains(&row.period)
+            || !row.pace.in_range()
             // "deadline (1 to P)"
-            || !(1..=row.period).contains(&row.deadline)
+            || !(1..=row.period()).contains(&row.deadline)
         {
             return refuse(5, place);
         }

@@ -13,7 +13,7 @@ use differential::readable::port_of;
 use ithumeco::{call_bytes, put_words, words, Record, ANSWER_SIZE, RECORD_SIZE, WORD_SIZE};
 use simulator::port::{CLAUSES, LAST_CLOCK};
 use simulator::table::accept;
-use simulator::{broken, Call, Class, Port};
+use simulator::{broken, Call, Class, Pace, Port, Row};
 
 use crate::bench::Bench;
 use crate::damages::DAMAGES;
@@ -54,13 +54,17 @@ fn sound_ports(random: &mut Random) -> [Port; 3] {
     [by_row, offered(by_best), idle]
 }
 
-/// A port with some rows of each class and some places not in use. Each row
-/// has been offered to and all frames have ended.
+/// A port with some rows of each class and of each pace, and some places not
+/// in use. Each row has been offered to and all frames have ended.
 fn idle_port(random: &mut Random) -> Port {
     loop {
         let table = tables::within(random, AGE);
         let of = |class| table.rows.iter().filter(|row| row.class == class).count();
         if of(Class::A) < 3 || of(Class::B) < 3 || table.rows.len() > 30 {
+            continue;
+        }
+        let is_rated = |row: &Row| matches!(row.pace, Pace::Rated { .. });
+        if table.rows.iter().all(is_rated) || !table.rows.iter().any(is_rated) {
             continue;
         }
         let mut driver = Driver::new(table);
@@ -146,7 +150,7 @@ fn with_changes(
 }
 
 /// Words at the edges of fields and rules.
-const EDGES: [u64; 22] = [
+const EDGES: [u64; 28] = [
     0,
     1,
     2,
@@ -159,9 +163,15 @@ const EDGES: [u64; 22] = [
     83,
     84,
     200,
+    255,
+    256,
+    999,
+    1000,
     1500,
     65_535,
     65_536,
+    200_000,
+    200_001,
     u32::MAX as u64,
     1 << 32,
     LAST_CLOCK,

@@ -1,7 +1,7 @@
 //! Changes to a sound record by the clauses of document 01's "broken": changes
 //! that make a clause hold, and changes up to its edge that do not.
 
-use ithumeco::{FrameWords, LastWords, Record, WireWords};
+use ithumeco::{FrameWords, LastWords, Record, RowWords, WireWords};
 use simulator::port::{BEST_EFFORT, LAST_CLOCK};
 use simulator::table::{Accepted, Figures};
 
@@ -20,9 +20,37 @@ pub const DAMAGES: &[Damage] = &[
     |record, _| record.idle_a = 0,
     |record, _| record.idle_b = 750_001,
     |record, _| record.best_payload = 1501,
-    |record, _| record.rows[1].period = 83,
+    |record, _| by_period(record).pace = 83,
+    |record, _| by_period(record).pace += 1,
+    |record, _| by_period(record).pace += 1 << 32,
     |record, plan| record.rows[1].deadline = plan.bounds[1] - 1,
     |record, plan| record.rows[1].deadline = plan.bounds[1],
+    // a rate and its samples: "(1,000 to 200,000 Hz)", "(1 to 255)"
+    |record, _| by_rate(record).pace = 0,
+    |record, _| by_rate(record).pace = 999,
+    |record, _| by_rate(record).pace = 1_000,
+    |record, _| by_rate(record).pace = 200_000,
+    |record, _| by_rate(record).pace = 200_001,
+    |record, _| by_rate(record).pace += 1 << 32,
+    |record, _| by_rate(record).samples = 0,
+    |record, _| by_rate(record).samples = 1,
+    |record, _| by_rate(record).samples = 255,
+    |record, _| by_rate(record).samples = 256,
+    |record, _| by_rate(record).samples += 256,
+    |record, _| by_rate(record).samples = u64::MAX,
+    // which of the two a row names
+    |record, _| by_rate(record).rated = 0,
+    |record, _| by_rate(record).rated = 2,
+    |record, _| by_rate(record).rated = u64::MAX,
+    |record, _| by_period(record).rated = 1,
+    |record, _| by_period(record).rated = 2,
+    |record, _| by_period(record).rated = 1 << 32,
+    |record, _| of_48_000(by_period(record)),
+    |record, _| of_48_000(by_rate(record)),
+    // the samples of a row that names a period are no part
+    |record, _| by_period(record).samples = 1,
+    |record, _| by_period(record).samples = 256,
+    |record, _| by_period(record).samples = u64::MAX,
     // "its clock or a credit is out of range (−S × L to I × H)"
     |record, _| record.clock = LAST_CLOCK,
     |record, _| record.clock = LAST_CLOCK + 1,
@@ -102,6 +130,28 @@ pub const DAMAGES: &[Damage] = &[
     |record, plan| retake(record, record.clock - plan.bounds[waiting_row(record)]),
     |record, _| retake(record, 0),
 ];
+
+/// The first row that names a period.
+fn by_period(record: &mut Record) -> &mut RowWords {
+    paced(record, 0)
+}
+
+/// The first row that names a rate.
+fn by_rate(record: &mut Record) -> &mut RowWords {
+    paced(record, 1)
+}
+
+fn paced(record: &mut Record, rated: u64) -> &mut RowWords {
+    let row = record.rows.iter_mut().find(|row| row.rated == rated);
+    row.expect("a row of each pace")
+}
+
+/// A rate of 48,000 Hz with a period that is no shorter than the deadline.
+fn of_48_000(row: &mut RowWords) {
+    row.rated = 1;
+    row.pace = 48_000;
+    row.samples = (row.deadline * 48_000).div_ceil(125_000_000);
+}
 
 fn lowest(class: &Figures) -> u64 {
     *class.credit_range().start() as u64

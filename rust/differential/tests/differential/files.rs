@@ -3,20 +3,19 @@
 use cases::files::{any_file, damaged, noise};
 use cases::random::Random;
 use cases::specimen::FILE;
-use cases::tables;
-use simulator::file_of;
+use cases::{rates, tables};
+use simulator::{file_of, opened, Pace};
 
 use crate::bench::Bench;
 
 pub fn run(bench: &mut Bench) {
     let mut random = Random::new(1);
-    every_room(bench, &FILE);
-    every_byte(bench, &FILE);
-    every_cut(bench, &FILE);
     let largest = largest_file(&mut random);
-    every_room(bench, &largest);
-    every_byte(bench, &largest);
-    every_cut(bench, &largest);
+    for file in [&FILE[..], &rates::FILE, &largest] {
+        every_room(bench, file);
+        every_byte(bench, file);
+        every_cut(bench, file);
+    }
     for _ in 0..bench.times(100) {
         let file = any_file(&mut random);
         every_room(bench, &file);
@@ -38,16 +37,19 @@ pub fn run(bench: &mut Bench) {
     }
 }
 
-/// A file of 32 rows, every field stated: as long as a file may be.
+/// A file of 32 rows with rates, every field stated: as long as a file may be.
 fn largest_file(random: &mut Random) -> Vec<u8> {
     loop {
         let mut table = tables::full(random);
         for row in &mut table.rows {
-            row.deadline = row.period;
-            row.period += 1;
+            if let Pace::Period(_) = row.pace {
+                let (rate, samples) = (1_000, 255);
+                row.pace = Pace::Rated { rate, samples };
+            }
+            row.deadline = row.deadline.min(row.period() - 1);
         }
         let file = file_of(&table);
-        if file.len() == 15 + 32 * 11 {
+        if file.len() == 15 + 32 * 12 && opened(&file).is_ok() {
             return file;
         }
     }

@@ -4,7 +4,7 @@ use std::collections::BTreeSet;
 
 use cases::random::Random;
 use cases::specimen::FILE;
-use cases::tables;
+use cases::{rates, tables};
 use ithumeco::RECORD_SIZE;
 use simulator::file::{file_of, file_stating};
 
@@ -34,6 +34,7 @@ pub fn run(bench: &mut Bench) {
     }
     late_rows(bench, &mut random, &mut seen);
     covered(&seen);
+    rated_rows(bench, &mut random);
 }
 
 fn open(bench: &mut Bench, random: &mut Random, seen: &mut Seen, file: &[u8]) {
@@ -66,7 +67,33 @@ fn late_rows(bench: &mut Bench, random: &mut Random, seen: &mut Seen) {
 fn covered(seen: &Seen) {
     let fixed = [(3, 14), (5, 4), (5, 8), (5, 12), (8, 0), (9, 0), (9, 1)];
     let late = (0..32).map(|row| (10, row));
-    for refusal in fixed.into_iter().chain(late) {
-        assert!(seen.contains(&refusal), "no refusal {refusal:?}");
+    all_in(seen, fixed.into_iter().chain(late));
+}
+
+/// Every cut of a file of rated rows, and every change of a single byte: each
+/// refusal of a map, a rate, its samples and its deadline, at its place.
+fn rated_rows(bench: &mut Bench, random: &mut Random) {
+    let mut seen = Seen::new();
+    let mut file = rates::FILE;
+    for at in 0..file.len() {
+        open(bench, random, &mut seen, &file[..at]);
+        let right = file[at];
+        for value in 0..=255 {
+            file[at] = value;
+            open(bench, random, &mut seen, &file);
+        }
+        file[at] = right;
     }
+    // Row 0 has its deadline at 18, rate at 22 and samples at 26, row 1 its rate
+    // at 28 and samples at 32.
+    let fields = [18, 22, 26, 28, 32].into_iter();
+    let fields = fields.flat_map(|field| [(1, field), (5, field)]);
+    let maps = [15, 27, 33].into_iter();
+    let maps = maps.flat_map(|map| [(4, map), (19, map)]);
+    all_in(&seen, fields.chain(maps).chain([(6, 18)]));
+}
+
+fn all_in(seen: &Seen, mut refusals: impl Iterator<Item = (u8, u64)>) {
+    let unseen = refusals.find(|refusal| !seen.contains(refusal));
+    assert_eq!(unseen, None, "a refusal that is not seen");
 }

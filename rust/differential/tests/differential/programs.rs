@@ -14,8 +14,8 @@ use cases::files::{any_file, damaged, noise};
 use cases::lines;
 use cases::random::Random;
 use cases::specimen::{self, FILE};
-use cases::tables;
 use cases::traffic::TRAFFIC;
+use cases::{rates, tables};
 use simulator::file_of;
 
 use crate::bench::Bench;
@@ -32,6 +32,7 @@ pub fn run(bench: &mut Bench) {
     };
     for by_bytes in [false, true] {
         programs.sheet(bench, &FILE, by_bytes);
+        programs.sheet(bench, &rates::FILE, by_bytes);
         programs.sheet(bench, &[], by_bytes);
         programs.sheet(bench, &[&FILE[..], &[0; 2000]].concat(), by_bytes);
         programs.list(bench, &FILE, b"", by_bytes);
@@ -166,8 +167,9 @@ fn count(bench: &mut Bench, text: &str) {
 fn mostly_accepted(random: &mut Random) -> Vec<u8> {
     match random.below(8) {
         0 => damaged(random, &FILE),
-        1 => any_file(random),
-        2 => noise(random),
+        1 => damaged(random, &rates::FILE),
+        2 => any_file(random),
+        3 => noise(random),
         _ => file_of(&tables::lively(random)),
     }
 }

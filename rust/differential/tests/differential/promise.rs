@@ -3,7 +3,7 @@
 use cases::driver::Driver;
 use cases::random::Random;
 use cases::traffic::dense_calls;
-use cases::{specimen, tables};
+use cases::{rates, specimen, tables};
 use simulator::{Class, Table};
 
 use crate::bench::{Bench, Reported};
@@ -15,7 +15,9 @@ const LONGEST: u64 = 200_000;
 pub fn run(bench: &mut Bench) {
     let mut random = Random::new(8);
     let mut closest = Closest::default();
-    on_table(bench, &mut random, &mut closest, specimen::table());
+    for table in [specimen::table(), rates::table()] {
+        on_table(bench, &mut random, &mut closest, table);
+    }
     for _ in 0..bench.times(400) {
         for class in [Class::A, Class::B] {
             let table = tables::tight(&mut random, class);

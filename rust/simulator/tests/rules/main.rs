@@ -3,5 +3,6 @@
 mod document;
 mod frames;
 mod random;
+mod rates;
 mod records;
 mod refusals;

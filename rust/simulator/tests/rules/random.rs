@@ -6,6 +6,7 @@ use cases::driver::Driver;
 use cases::files::damaged;
 use cases::ports;
 use cases::random::Random;
+use cases::rates;
 use cases::specimen::{table, FILE};
 use cases::tables;
 use cases::traffic::{any_call, dense_calls, random_calls};
@@ -77,7 +78,7 @@ fn written_files_read_back() {
     for _ in 0..2000 {
         let mut table = tables::accepted(&mut random);
         tables::set_defaults(&mut random, &mut table);
-        let mut buffer = [0xEE; 15 + 32 * 11 + 10];
+        let mut buffer = [0xEE; 15 + 32 * 12 + 10];
         let size = write(&table, &mut buffer).unwrap();
         assert!(buffer[size..].iter().all(|&byte| byte == 0xEE));
         assert_eq!(read(&buffer[..size]), Ok(table));
@@ -88,8 +89,10 @@ fn written_files_read_back() {
 fn a_file_that_reads_is_the_one_that_is_written() {
     let mut random = Random::new(3);
     let mut accepted = 0;
+    let mut seen = BTreeSet::new();
     for _ in 0..100_000 {
-        let file = damaged(&mut random, &FILE);
+        let file = random.pick(&[&FILE[..], &rates::FILE]);
+        let file = damaged(&mut random, file);
         match read(&file) {
             Ok(table) => {
                 let mut buffer = vec![0; file.len()];
@@ -98,12 +101,13 @@ fn a_file_that_reads_is_the_one_that_is_written() {
                 accepted += 1;
             }
             Err(refusal) => {
-                assert!((1..=7).contains(&refusal.number));
                 assert!(refusal.place <= file.len() as u64);
+                seen.insert(refusal.number);
             }
         }
     }
     assert!(accepted > 1000);
+    assert!(seen.into_iter().eq((1..=7).chain([19])));
 }
 
 #[test]

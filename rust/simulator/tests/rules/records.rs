@@ -3,7 +3,7 @@
 use crate::frames::{best, frame};
 use cases::specimen::table;
 use simulator::port::CLAUSES;
-use simulator::{broken, Mark, Port, Wire};
+use simulator::{broken, Mark, Pace, Port, Wire};
 
 /// A sound record at clock 1000: row 0 on the wire, rows 1 and 2 and two
 /// best-effort frames waiting.
@@ -64,6 +64,12 @@ fn table_not_accepted() {
     is_broken(name, |port| port.table.idle_b = 15_999);
     is_broken(name, |port| port.table.rows[1].deadline = 3141);
     is_sound(|port| port.table.rows[1].deadline = 3142);
+    let rate = |port: &mut Port, rate| port.table.rows[0].pace = Pace::Rated { rate, samples: 6 };
+    is_broken(name, |port| rate(port, 0));
+    is_broken(name, |port| rate(port, 999));
+    // 6 at 48,000 give row 0's deadline, 15,625, and less at 48,001.
+    is_sound(|port| rate(port, 48_000));
+    is_broken(name, |port| rate(port, 48_001));
 }
 
 #[test]

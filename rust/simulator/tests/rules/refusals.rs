@@ -2,28 +2,28 @@
 
 use cases::specimen::{table, FILE};
 use cases::tables::row;
-use simulator::{bounds, open, read, write, Class, Port, Refusal, Table};
+use simulator::{bounds, open, read, write, Class, Pace, Port, Refusal, Table};
 
-fn refusal(number: u8, place: u64) -> Refusal {
+pub fn refusal(number: u8, place: u64) -> Refusal {
     Refusal { number, place }
 }
 
 /// The specimen's file with other bytes from an offset on.
-fn with(at: usize, bytes: &[u8]) -> Vec<u8> {
+pub fn with(at: usize, bytes: &[u8]) -> Vec<u8> {
     let mut file = FILE.to_vec();
     file[at..at + bytes.len()].copy_from_slice(bytes);
     file
 }
 
 /// A file of one row.
-fn one_row(row: &[u8]) -> Vec<u8> {
+pub fn one_row(row: &[u8]) -> Vec<u8> {
     let mut file = FILE[..14].to_vec();
     file.push(1);
     file.extend_from_slice(row);
     file
 }
 
-fn refused_read(file: &[u8], number: u8, place: u64) {
+pub fn refused_read(file: &[u8], number: u8, place: u64) {
     assert_eq!(read(file), Err(refusal(number, place)), "{file:02X?}");
 }
 
@@ -73,12 +73,12 @@ fn reading_3_row_count() {
 
 #[test]
 fn reading_4_map_bits() {
-    for bit in 3..=6 {
+    for bit in 4..=6 {
         refused_read(&with(15, &[0x01 | 1 << bit]), 4, 15);
         refused_read(&with(25, &[0x81 | 1 << bit]), 4, 25);
     }
     // Before the row's fields.
-    refused_read(&one_row(&[0x09]), 4, 15);
+    refused_read(&one_row(&[0x11]), 4, 15);
 }
 
 #[test]
@@ -144,7 +144,7 @@ fn writing_3_5_and_17() {
     none.rows.clear();
     refused(&none, 100, 3, 0);
     let mut value = table();
-    value.rows[2].period = 83;
+    value.rows[2].pace = Pace::Period(83);
     refused(&value, 100, 5, 2);
     refused(&value, 0, 5, 2);
     value.idle_a = 750_001;
@@ -155,7 +155,7 @@ fn writing_3_5_and_17() {
     assert_eq!(write(&unopened, &mut [0; 28]), Ok(28));
 }
 
-fn refused_open(change: impl Fn(&mut Table), number: u8, place: u64) {
+pub fn refused_open(change: impl Fn(&mut Table), number: u8, place: u64) {
     let mut table = table();
     change(&mut table);
     assert_eq!(open(&table), Err(refusal(number, place)), "{table:?}");
@@ -194,8 +194,9 @@ fn opening_5_out_of_range() {
     refused_open(|table| table.best_payload = 1501, 5, 32);
     refused_open(|table| table.best_payload = u64::MAX, 5, 32);
     refused_open(|table| table.rows[0].payload = 1501, 5, 0);
-    refused_open(|table| table.rows[1].period = 83, 5, 1);
-    refused_open(|table| table.rows[1].period = 1_000_000_001, 5, 1);
+    let period = |table: &mut Table, period| table.rows[1].pace = Pace::Period(period);
+    refused_open(|table| period(table, 83), 5, 1);
+    refused_open(|table| period(table, 1_000_000_001), 5, 1);
     refused_open(|table| table.rows[2].deadline = 0, 5, 2);
     refused_open(|table| table.rows[2].deadline = 31_251, 5, 2);
     refused_open(|table| table.rows[2].payload = u64::MAX, 5, 2);

@@ -49,6 +49,7 @@ use denote.Triple.Walked.{says, Stays, stay-none, stay-none-slice, walkOf, goes-
 use denote.Exit.{yes}
 use Rattle.table.specs.declared.Class.{Class}
 use Rattle.table.specs.declared.Header.{Header}
+use Rattle.table.specs.declared.Pace.{Pace}
 use Rattle.table.specs.declared.Row.{Row}
 use Rattle.table.specs.declared.Table.{Table}
 use Rattle.table.specs.Rows.{noRow, Contents, contents}
@@ -56,6 +57,8 @@ use Rattle.table.proofs.Class as C
 use Rattle.table.proofs.Class.Laws as C′
 use Rattle.table.proofs.Header as Hd
 use Rattle.table.proofs.Header.Laws as Hd′
+use Rattle.table.proofs.Pace as P
+use Rattle.table.proofs.Pace.Laws as P′
 use Rattle.table.proofs.Row as R
 use Rattle.table.proofs.Row.Laws as R′
 use Rattle.table.proofs.Table as T
@@ -104,6 +107,9 @@ ref = tyRef erased imm (pointee (R.the-row .written))
 -- ---- what a row's machine value says of its values
 class-is : (r : Row) → Is R.the-row r (R′.lowered r ∷ []) → Is C.the-row (r .class) (C′.lowered (r .class) ∷ [])
 class-is r g = subst (λ (vs : List Val). Is C.the-row (r .class) vs) (C′.lowers .val-is (r .class) _ (g .1 .1 .0)) (g .1 .1 .0)
+
+pace-is : (r : Row) → Is R.the-row r (R′.lowered r ∷ []) → Is P.the-row (r .pace) (P′.lowered (r .pace) ∷ [])
+pace-is r g = subst (λ (vs : List Val). Is P.the-row (r .pace) vs) (P′.lowers .val-is (r .pace) _ (g .1 .1 .1 .1 .0)) (g .1 .1 .1 .1 .0)
 
 -- where a turn begins: the table has the first i rows
 record Turn (hd : Header) (ys : List Row) : Type 0 where
@@ -177,18 +183,18 @@ module _ {M : Type 1} (𝓤 : URA M) (H : Heap 𝓤) (A : Atoms 𝓤) (W : Given
 
   -- `push` is passed the four values of a row
   abbrev PushArg : Type 0
-  PushArg = Table × (Class × (ℕ × (ℕ × (ℕ × Unit {0}))))
+  PushArg = Table × (Class × (ℕ × (Pace × (ℕ × Unit {0}))))
 
   abbrev pushes : Table → Row → PushArg
-  pushes t r = (t, (r .class, (r .payload, (r .period, (r .deadline, tt)))))
+  pushes t r = (t, (r .class, (r .payload, (r .pace, (r .deadline, tt)))))
 
   abbrev to-push : (t : Table) (u : Val) (r : Row) → Push 𝓤 H A mem run .Ghost
-  to-push t u r = ((tt, tt, tt, pushes t r, (u ∷ [], (C′.lowered (r .class) ∷ [], (vint w16 (r .payload) ∷ [], (vint w32 (r .period) ∷ [], (vint w32 (r .deadline) ∷ [], tt)))))), tt)
+  to-push t u r = ((tt, tt, tt, pushes t r, (u ∷ [], (C′.lowered (r .class) ∷ [], (vint w16 (r .payload) ∷ [], (P′.lowered (r .pace) ∷ [], (vint w32 (r .deadline) ∷ [], tt)))))), tt)
 
   goes-push : (t : Table) (u : Val) (r : Row) → Is T.the-row t (u ∷ []) → Is R.the-row r (R′.lowered r ∷ []) → ent 𝓤 (emp 𝓤) (Push 𝓤 H A mem run .pre (to-push t u r))
   goes-push t u r is g =
       qed W [] ∵ nothing ! $ owned ! u32 (Is u32) (uint-makes 𝓤 H A W w32) (r .deadline) (vint w32 (r .deadline) ∷ []) (refl, g .1 .1 .1 .1 .1 .0 .1) $ fjoin ! $
-      owned ! u32 (Is u32) (uint-makes 𝓤 H A W w32) (r .period) (vint w32 (r .period) ∷ []) (refl, g .1 .1 .1 .1 .0 .1) $ fjoin ! $
+      owned ! P.the-row (Is P.the-row) (EL.makes P.the-type P′.the-plain 𝓤 H A) (r .pace) (P′.lowered (r .pace) ∷ []) (pace-is r g) $ fjoin ! $
       owned ! u16 (Is u16) (uint-makes 𝓤 H A W w16) (r .payload) (vint w16 (r .payload) ∷ []) (refl, g .1 .1 .1 .0 .1) $ fjoin ! $
       owned ! C.the-row (Is C.the-row) (EL.makes C.the-type C′.the-plain 𝓤 H A) (r .class) (C′.lowered (r .class) ∷ []) (class-is r g) $ fjoin ! $
       owned ! T.the-row (Is T.the-row) (LL.makes T.the-type T′.the-plain 𝓤 H A) t (u ∷ []) is $ fjoin ! $ nothing ! $ join ! $ frame ! $ done !
@@ -232,12 +238,12 @@ module _ {M : Type 1} (𝓤 : URA M) (H : Heap 𝓤) (A : Atoms 𝓤) (W : Given
 
     abbrev En : Env 𝓤 H
     En =
-        (S′.mir, l₀) ∷ (Hd′.mir, l₁) ∷ (slice, l₂) ∷ (T′.mir, l₃) ∷ (word, l₄) ∷ (word, l₅) ∷ (ref, l₆) ∷ (word, l₇) ∷ (tyBool, l₈) ∷ (word, l₉) ∷ (tyPtr, l₁₀) ∷ (C′.mir, l₁₁) ∷ (tyInt w16, l₁₂) ∷ (tyInt w32, l₁₃) ∷ (tyInt w32, l₁₄) ∷ []
+        (S′.mir, l₀) ∷ (Hd′.mir, l₁) ∷ (slice, l₂) ∷ (T′.mir, l₃) ∷ (word, l₄) ∷ (word, l₅) ∷ (ref, l₆) ∷ (word, l₇) ∷ (tyBool, l₈) ∷ (word, l₉) ∷ (tyPtr, l₁₀) ∷ (C′.mir, l₁₁) ∷ (tyInt w16, l₁₂) ∷ (P′.mir, l₁₃) ∷ (tyInt w32, l₁₄) ∷ []
 
     abbrev At : State → List (Item 𝓤)
     At t =
         ‵ (flft κ q) ∷ ‵ Own ∷
-        ‵ (froom (tyInt w32) l₁₄ 0) ∷ ‵ (fdies (tyInt w32) l₁₄) ∷ ‵ (froom (tyInt w32) l₁₃ 0) ∷ ‵ (fdies (tyInt w32) l₁₃) ∷ ‵ (froom (tyInt w16) l₁₂ 0) ∷ ‵ (fdies (tyInt w16) l₁₂) ∷
+        ‵ (froom (tyInt w32) l₁₄ 0) ∷ ‵ (fdies (tyInt w32) l₁₄) ∷ ‵ (froom P′.mir l₁₃ 0) ∷ ‵ (fdies P′.mir l₁₃) ∷ ‵ (froom (tyInt w16) l₁₂ 0) ∷ ‵ (fdies (tyInt w16) l₁₂) ∷
         ‵ (froom C′.mir l₁₁ 0) ∷ ‵ (fdies C′.mir l₁₁) ∷ ‵ (froom tyPtr l₁₀ 0) ∷ ‵ (fdies tyPtr l₁₀) ∷ ‵ (froom word l₉ 0) ∷ ‵ (fdies word l₉) ∷ ‵ (froom tyBool l₈ 0) ∷ ‵ (fdies tyBool l₈) ∷
         ‵ (froom word l₇ 0) ∷ ‵ (fdies word l₇) ∷ ‵ (froom ref l₆ 0) ∷ ‵ (fdies ref l₆) ∷ ‵ (fat fullShare word l₅ 0 (vint w64 (t .i))) ∷ ‵ (fdies word l₅) ∷
         ‵ (fat fullShare word l₄ 0 (vint w64 N)) ∷ ‵ (fdies word l₄) ∷ ‵ (fat fullShare T′.mir l₃ 0 (t .value)) ∷ ‵ (fdies T′.mir l₃) ∷
@@ -252,20 +258,20 @@ module _ {M : Type 1} (𝓤 : URA M) (H : Heap 𝓤) (A : Atoms 𝓤) (W : Given
     goes-on t z =
         assigns ! (bin ! (loads ! (from ! (stop !)) (look ! 20 refl)) (loads ! (from ! (stop !)) (look ! 22 refl)) tt) (from ! (stop !)) (init ! 14 refl (tt, tt)) $
         rewrite ! 14 (λ (y : Bool). ‵ (fat fullShare tyBool l₈ 0 (vbool y))) z refl $ stays ! (loads ! (from ! (stop !)) (look ! 14 refl)) $
-        assigns ! (bin ! (loads ! (from ! (stop !)) (look ! 20 refl)) (lit ! tt) (record { fits = twelve })) (from ! (stop !)) (init ! 12 refl (tt, record { fits = twelve })) $
+        assigns ! (bin ! (loads ! (from ! (stop !)) (look ! 20 refl)) (lit ! tt) (record { fits = sixteen })) (from ! (stop !)) (init ! 12 refl (tt, record { fits = sixteen })) $
         assigns ! (bin ! (loads ! (from ! (fld ! refl (stop !))) (look-in ! 26 (sub ! 0 refl (whole !)))) (loads ! (from ! (stop !)) (look ! 12 refl)) tt) (from ! (stop !)) (init ! 10 refl (tt, tt)) $
-        rewrite ! 10 (λ (p : ℕ). ‵ (fat fullShare tyPtr l₁₀ 0 (vptr b p))) (sym (place-is 12 o i)) refl $
+        rewrite ! 10 (λ (p : ℕ). ‵ (fat fullShare tyPtr l₁₀ 0 (vptr b p))) (sym (place-is 16 o i)) refl $
         assigns ! (addr ! (from ! (hop ! (look ! 10 refl) (stop !)))) (from ! (stop !)) (init ! 18 refl (tt, tt)) $
         move ! (1 ∷ []) $ use1 W (‵ Own ⊛ ‵ Own) (shr-slice-copy 𝓤 H A W (named 0) κ R.the-row .twice s (v ∷ [])) $ split ! $ fsplit ! $ drop ! $ fsplit ! $ drop ! $ move ! (0 ∷ 2 ∷ []) $
         looks-slice ! tt R.the-row (Is R.the-row) (shows 𝓤 H A R.the-row) (λ r. R′.lowered r ∷ []) (R′.lowers .val-is) (LL.copy R.the-type R′.the-copy 𝓤 H A W) ys b o (λ q′.
         elem-out ! R.the-row (Is R.the-row) (shows 𝓤 H A R.the-row) (λ r. R′.lowered r ∷ []) (R′.lowers .val-is) q′ ys i noRow b o l (λ g.
         -- [the row; what it owns; the others; what shuts; the fractured borrow; what the slice owns; room for _14; …; _13; …]
-        use1 W (‵ (fat q′ R′.mir b (place 12 o i) (R′.lowered (rowAt i)))) (W .laws .raw-at q′ R′.mir b (place 12 o i) (R′.lowered (rowAt i))) $
+        use1 W (‵ (fat q′ R′.mir b (place 16 o i) (R′.lowered (rowAt i)))) (W .laws .raw-at q′ R′.mir b (place 16 o i) (R′.lowered (rowAt i))) $
         assigns ! (of-opd ! (loads ! (from ! (hop ! (look ! 22 refl) (fld ! refl (stop !)))) (look-in ! 0 (sub ! 0 refl (whole !))))) (from ! (stop !)) (init ! 12 refl (EL.lawful C.the-type C′.the-laws 𝓤 H A W tt .typed (rowAt i .class) _ (class-is (rowAt i) g) .0)) $
         assigns ! (of-opd ! (loads ! (from ! (hop ! (look ! 22 refl) (fld ! refl (stop !)))) (look-in ! 0 (sub ! 1 refl (whole !))))) (from ! (stop !)) (init ! 10 refl (tt, record { fits = g .1 .1 .1 .0 .1 })) $
-        assigns ! (of-opd ! (loads ! (from ! (hop ! (look ! 22 refl) (fld ! refl (stop !)))) (look-in ! 0 (sub ! 2 refl (whole !))))) (from ! (stop !)) (init ! 8 refl (tt, record { fits = g .1 .1 .1 .1 .0 .1 })) $
+        assigns ! (of-opd ! (loads ! (from ! (hop ! (look ! 22 refl) (fld ! refl (stop !)))) (look-in ! 0 (sub ! 2 refl (whole !))))) (from ! (stop !)) (init ! 8 refl (EL.lawful P.the-type P′.the-laws 𝓤 H A W tt .typed (rowAt i .pace) _ (pace-is (rowAt i) g) .0)) $
         assigns ! (of-opd ! (loads ! (from ! (hop ! (look ! 22 refl) (fld ! refl (stop !)))) (look-in ! 0 (sub ! 3 refl (whole !))))) (from ! (stop !)) (init ! 6 refl (tt, record { fits = g .1 .1 .1 .1 .1 .0 .1 })) $
-        use1 W (‵ (cellAt q′ (R.the-row .mir) (R′.lowered (rowAt i) ∷ []) b (place 12 o i))) (W .laws .at-raw q′ R′.mir b (place 12 o i) (R′.lowered (rowAt i))) $
+        use1 W (‵ (cellAt q′ (R.the-row .mir) (R′.lowered (rowAt i) ∷ []) b (place 16 o i))) (W .laws .at-raw q′ R′.mir b (place 16 o i) (R′.lowered (rowAt i))) $
         elem-back ! R.the-row q′ ys i noRow (R′.lowered (rowAt i) ∷ []) b o l $ shuts-slice ! tt R.the-row q′ ys b o $ move ! (1 ∷ []) $ drop ! $
         use0 W (raw (Push 𝓤 H A mem run .pre (to-push (t .table) (t .value) (rowAt i)))) (goes-push (t .table) (t .value) (rowAt i) (t .is) g) $
         calls-at ! (fmOf 𝓤 H (W .laws) 𝓣) (Push 𝓤 H A mem run) known-push (to-push (t .table) (t .value) (rowAt i))
@@ -292,8 +298,8 @@ module _ {M : Type 1} (𝓤 : URA M) (H : Heap 𝓤) (A : Atoms 𝓤) (W : Given
         next : (t′ : Table) → Pushed (t .table) (rowAt i) t′ → (u′ : Val) → Is T.the-row t′ (u′ ∷ []) → State
         next t′ e u′ is = record { i = i + 1; within = add-one-le h; table = t′; loaded = one-more hd ys i (t .table) t′ l few (t .loaded) e; value = u′; is = is }
 
-        twelve : i * 12 < 2 ^ 64
-        twelve = lt-of-le-of-lt {m = 500} (omega (arith, h)) (lit< tt)
+        sixteen : i * 16 < 2 ^ 64
+        sixteen = lt-of-le-of-lt {m = 1000} (omega (arith, h)) (lit< tt)
 
         one : i + 1 < 2 ^ 64
         one = lt-of-le-of-lt {m = 500} (omega (arith, h)) (lit< tt)

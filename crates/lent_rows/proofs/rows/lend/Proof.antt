@@ -167,7 +167,7 @@ module _ {M : Type 1} (𝓤 : URA M) (H : Heap 𝓤) (A : Atoms 𝓤) (W : Given
   own-rows = rows-are t (rw (places t _ p) few)
 
   room : Room R.the-row (length ys)
-  room = (lt-of-le-of-lt {m = 500} (rw counts (omega (arith, few))) (lit< tt), lt-of-le-of-lt {m = 500} (rw counts (omega (arith, few))) (lit< tt))
+  room = (lt-of-le-of-lt {m = 500} (rw counts (omega (arith, few))) (lit< tt), lt-of-le-of-lt {m = 1000} (rw counts (omega (arith, few))) (lit< tt))
 
   exits : (r : Sheet) (u : Val) → Is S.the-row r (u ∷ []) → Shown (contents t) r → ent 𝓤 (emp 𝓤) (Post u)
   exits r u is e =

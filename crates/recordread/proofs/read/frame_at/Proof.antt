@@ -3,39 +3,25 @@ use borrow.Author.Needs.{needs}
 use Rattle.recordread.proofs.read.frame_at.Statement.{statement}
 use Rattle.recordread.proofs.read.frame_at.Tie as tie
 
-word-requires : tie.Need-word-requires
-word-requires c κs = search needs
+u32-at-requires : tie.Need-u32-at-requires
+u32-at-requires c κs = search needs
 
-u32-of-requires : tie.Need-u32-of-requires
-u32-of-requires c κs = search needs
+add-u32-at : tie.Need-add-u32-at
+add-u32-at c = search needs
+
+u32-at-requires-2 : tie.Need-u32-at-requires-2
+u32-at-requires-2 c κs = search needs
 
 add-word : tie.Need-add-word
 add-word c = search needs
 
-word-requires-2 : tie.Need-word-requires-2
-word-requires-2 c κs = search needs
-
-u32-of-requires-2 : tie.Need-u32-of-requires-2
-u32-of-requires-2 c κs = search needs
-
-add-word-2 : tie.Need-add-word-2
-add-word-2 c = search needs
-
-word-requires-3 : tie.Need-word-requires-3
-word-requires-3 c κs = search needs
+word-requires : tie.Need-word-requires
+word-requires c κs = search needs
 
 returns : tie.Need-returns
-returns c = rw (c .word3 .ensures, c .before .u32-of2 .ensures, c .before .before .word2 .ensures, c .before .before .before .u32-of .ensures, c .before .before .before .before .word .ensures)
+returns c = rw (c .word .ensures, c .before .u32-at2 .ensures, c .before .before .u32-at .ensures)
 
 pub frame-at-spec : {M : Type 1} → statement M
 frame-at-spec =
     tie.close
-    (tie.spec
-    word-requires
-    u32-of-requires
-    add-word
-    word-requires-2
-    u32-of-requires-2
-    add-word-2
-    word-requires-3
-    returns)
+    (tie.spec u32-at-requires add-u32-at u32-at-requires-2 add-word word-requires returns)

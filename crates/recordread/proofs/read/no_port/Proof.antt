@@ -10,14 +10,14 @@ zero-frame-requires c κs = search needs
 zero-frame-requires-2 : tie.Need-zero-frame-requires-2
 zero-frame-requires-2 c κs = search needs
 
-zero-row-requires : tie.Need-zero-row-requires
-zero-row-requires c κs = search needs
+no-row-requires : tie.Need-no-row-requires
+no-row-requires c κs = search needs
 
 zero-last-requires : tie.Need-zero-last-requires
 zero-last-requires c κs = search needs
 
 returns : tie.Need-returns
-returns c = rw (c .zero-last .ensures, c .before .zero-row .ensures, c .before .before .zero-frame2 .ensures, c .before .before .before .zero-frame .ensures) zeros-named
+returns c = rw (c .zero-last .ensures, c .before .no-row .ensures, c .before .before .zero-frame2 .ensures, c .before .before .before .zero-frame .ensures) zeros-named
 
 pub no-port-spec : {M : Type 1} → statement M
 no-port-spec =
@@ -25,6 +25,6 @@ no-port-spec =
     (tie.spec
     zero-frame-requires
     zero-frame-requires-2
-    zero-row-requires
+    no-row-requires
     zero-last-requires
     returns)

@@ -20,11 +20,11 @@ Inv-loop s n rows₀ i₀ rows i = (i ≤ n) × (length rows ≡ mostRows) × (r
 abbrev μ-loop : tie.MeasureT-loop
 μ-loop s n rows₀ i₀ rows i = n - i
 
-zero-row-requires : tie.Need-zero-row-requires Inv-loop μ-loop
-zero-row-requires c κs = omega arith
+no-row-requires : tie.Need-no-row-requires Inv-loop μ-loop
+no-row-requires c κs = omega arith
 
 loop-holds : tie.Need-loop-holds Inv-loop μ-loop
-loop-holds c = let s = c .before .before in (omega arith, refl, none-gathered noRow mostRows (rowAt (now (s .args .s))) rowWidth rowsStart (c .zero-row .ensures))
+loop-holds c = let s = c .before .before in (omega arith, refl, none-gathered noRow mostRows (rowAt (now (s .args .s))) rowWidth rowsStart (c .no-row .ensures))
 
 mul-row-at : tie.Need-mul-row-at Inv-loop μ-loop
 mul-row-at c = omega arith
@@ -66,7 +66,7 @@ rows-at-spec =
     (tie.spec
     Inv-loop
     μ-loop
-    zero-row-requires
+    no-row-requires
     loop-holds
     mul-row-at
     add-row-at

@@ -14,20 +14,17 @@ add-frame-at c = search needs
 frame-at-requires : tie.Need-frame-at-requires
 frame-at-requires c κs = search needs
 
-add-word : tie.Need-add-word
-add-word c = search needs
+add-u32-at : tie.Need-add-u32-at
+add-u32-at c = search needs
 
-add-word-2 : tie.Need-add-word-2
-add-word-2 c = search needs
+add-u32-at-2 : tie.Need-add-u32-at-2
+add-u32-at-2 c = search needs
 
-word-requires-2 : tie.Need-word-requires-2
-word-requires-2 c κs = search needs
-
-u32-of-requires : tie.Need-u32-of-requires
-u32-of-requires c κs = search needs
+u32-at-requires : tie.Need-u32-at-requires
+u32-at-requires c κs = search needs
 
 returns : tie.Need-returns
-returns c = rw (c .before .before .frame-at .ensures, c .u32-of .ensures, c .before .word2 .ensures) (sending-named _ _ (sym (c .before .before .before .before .word .ensures) ∙ c .before .before .before .if1 .taken))
+returns c = rw (c .before .frame-at .ensures, c .u32-at .ensures) (sending-named _ _ (sym (c .before .before .before .word .ensures) ∙ c .before .before .if1 .taken))
 
 returns-2 : tie.Need-returns-2
 returns-2 c = free-named _ _ (λ e. c .if1 .left (c .before .word .ensures ∙ e))
@@ -39,9 +36,8 @@ wire-at-spec =
     word-requires
     add-frame-at
     frame-at-requires
-    add-word
-    add-word-2
-    word-requires-2
-    u32-of-requires
+    add-u32-at
+    add-u32-at-2
+    u32-at-requires
     returns
     returns-2)

@@ -1,4 +1,4 @@
--- `recordwrite::write::put_row` meets its contract: four words, one behind the other, the first the class's.
+-- `recordwrite::write::put_row` meets its contract: three words, the first the class's, and the pace's words behind them.
 use Rattle.recordwrite.proofs.Storage.{row-put}
 use borrow.Author.Needs.{needs}
 use Rattle.recordwrite.proofs.write.put_row.Statement.{statement}
@@ -7,56 +7,36 @@ use Rattle.recordwrite.proofs.write.put_row.Tie as tie
 class-word-requires : tie.Need-class-word-requires
 class-word-requires c κs = search needs
 
-put-word-requires : tie.Need-put-word-requires
-put-word-requires c κs = search needs
+cast-put-three : tie.Need-cast-put-three
+cast-put-three c = search needs
 
-add-put-word : tie.Need-add-put-word
-add-put-word c = search needs
+cast-put-three-2 : tie.Need-cast-put-three-2
+cast-put-three-2 c = search needs
 
-cast-put-word : tie.Need-cast-put-word
-cast-put-word c = search needs
+put-three-requires : tie.Need-put-three-requires
+put-three-requires c κs = search needs
 
-put-word-requires-2 : tie.Need-put-word-requires-2
-put-word-requires-2 c κs = search needs
+add-put-pace : tie.Need-add-put-pace
+add-put-pace c = search needs
 
-add-put-word-2 : tie.Need-add-put-word-2
-add-put-word-2 c = search needs
-
-cast-put-word-2 : tie.Need-cast-put-word-2
-cast-put-word-2 c = search needs
-
-put-word-requires-3 : tie.Need-put-word-requires-3
-put-word-requires-3 c κs = search needs
-
-add-put-word-3 : tie.Need-add-put-word-3
-add-put-word-3 c = search needs
-
-cast-put-word-3 : tie.Need-cast-put-word-3
-cast-put-word-3 c = search needs
-
-put-word-requires-4 : tie.Need-put-word-requires-4
-put-word-requires-4 c κs = search needs
+put-pace-requires : tie.Need-put-pace-requires
+put-pace-requires c κs = search needs
 
 same-length : tie.Need-same-length
 same-length c = search needs
 
 returns : tie.Need-returns
-returns c = row-put _ _ (c .before .before .before .before .before .before .before .before .before .before .before .before .before .before .before .before .before .before .before .before .before .args .row) (c .before .before .before .before .before .before .before .before .before .before .before .before .before .before .before .before .before .before .class-word .ensures) (c .before .before .before .before .before .before .before .before .before .before .before .before .before .before .before .before .before .put-word .ensures) (c .before .before .before .before .before .before .before .before .before .before .before .before .put-word2 .ensures) (c .before .before .before .before .before .before .before .put-word3 .ensures) (c .before .before .put-word4 .ensures)
+returns c = row-put _ _ (c .before .before .before .before .before .before .before .before .before .before .before .before .args .row) (c .before .before .before .before .before .before .before .before .before .class-word .ensures) (c .before .before .before .before .before .before .put-three .ensures) (c .before .before .put-pace .ensures)
 
 pub put-row-spec : {M : Type 1} → statement M
 put-row-spec =
     tie.close
     (tie.spec
     class-word-requires
-    put-word-requires
-    add-put-word
-    cast-put-word
-    put-word-requires-2
-    add-put-word-2
-    cast-put-word-2
-    put-word-requires-3
-    add-put-word-3
-    cast-put-word-3
-    put-word-requires-4
+    cast-put-three
+    cast-put-three-2
+    put-three-requires
+    add-put-pace
+    put-pace-requires
     same-length
     returns)

@@ -1,8 +1,8 @@
--- `tablefile::layout::deadline_place` meets its contract: behind the period's place the period takes its four bytes where its bit stands, and else none.
+-- `tablefile::layout::deadline_place` meets its contract: the deadline stands behind the period.
 use native.Mathlib.Omega.{arith}
 use borrow.Author.Needs.{needs}
 use Rattle.tablefile.specs.Layout.{Period}
-use Rattle.tablefile.proofs.Sizes.{size-stated, size-unstated}
+use Rattle.tablefile.proofs.Sizes.{behind-field}
 use Rattle.tablefile.proofs.layout.deadline_place.Statement.{statement}
 use Rattle.tablefile.proofs.layout.deadline_place.Tie as tie
 
@@ -12,21 +12,11 @@ period-place-requires c κs = search needs
 period-stands-requires : tie.Need-period-stands-requires
 period-stands-requires c κs = search needs
 
-add-result : tie.Need-add-result
-add-result c = search needs
+behind-requires : tie.Need-behind-requires
+behind-requires c κs = search needs
 
 returns : tie.Need-returns
-returns c =
-    let s = c .before .before .before in
-    let h = size-stated Period (s .args .map) (c .before .period-stands .ensures) (c .if1 .taken) in
-    (omega (arith, h), omega arith)
-
-returns-2 : tie.Need-returns-2
-returns-2 c =
-    let s = c .before .before .before in
-    let h = size-unstated Period (s .args .map) (c .before .period-stands .ensures) (c .if1 .left) in
-    (omega (arith, h), omega arith)
+returns c = (behind-field Period _ (c .before .period-stands .ensures) (c .before .before .period-place .ensures .0) (c .behind .ensures .0), omega arith)
 
 pub deadline-place-spec : {M : Type 1} → statement M
-deadline-place-spec =
-    tie.close (tie.spec period-place-requires period-stands-requires add-result returns returns-2)
+deadline-place-spec = tie.close (tie.spec period-place-requires period-stands-requires behind-requires returns)

@@ -1,7 +1,7 @@
 -- `tablefile::layout::default_period` meets its contract: in either case the period is that of the class.
 use mathlib.Core.Path.{sym, ap}
 use borrow.Author.Needs.{needs}
-use Rattle.tablefile.specs.Layout.{periodFor, defaultOf}
+use Rattle.tablefile.specs.Layout.{periodFor, defaultPeriod}
 use Rattle.tablefile.proofs.layout.default_period.Statement.{statement}
 use Rattle.tablefile.proofs.layout.default_period.Tie as tie
 
@@ -12,11 +12,11 @@ enum-told-2 : tie.Need-enum-told-2
 enum-told-2 c = search needs
 
 returns : tie.Need-returns
-unfolding defaultOf
+unfolding defaultPeriod
 returns c = ap periodFor (sym (c .enum-told .given .1))
 
 returns-2 : tie.Need-returns-2
-unfolding defaultOf
+unfolding defaultPeriod
 returns-2 c = ap periodFor (sym (c .enum-told2 .given .1))
 
 pub default-period-spec : {M : Type 1} → statement M

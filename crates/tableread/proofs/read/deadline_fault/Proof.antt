@@ -1,20 +1,22 @@
--- `tableread::read::deadline_fault` meets its contract: the tests handed on are those of the deadline's checks, at the deadline's place.
-use Prim.Native.Nat.{_+_}
+-- `tableread::read::deadline_fault` meets its contract: a deadline that stands makes the row whole, and is tested for range and default; one that does not is not tested.
 use mathlib.Core.Path.{ap}
-use lib.ListN.{length}
-use lib.Dec.{leb, eqb}
+use lib.Dec.{eqb}
 use denote.Ref.{now}
 use borrow.Author.Needs.{needs}
 use Rattle.tablefile.specs.Layout.{Deadline}
-use Rattle.tableread.proofs.Faults.{field-told}
+use Rattle.tableread.proofs.Values.{deadline-stated}
+use Rattle.tableread.proofs.Faults.{judged-told}
 use Rattle.tableread.proofs.read.deadline_fault.Statement.{statement}
 use Rattle.tableread.proofs.read.deadline_fault.Tie as tie
 
 deadline-place-requires : tie.Need-deadline-place-requires
 deadline-place-requires c κs = search needs
 
-add-inside : tie.Need-add-inside
-add-inside c = search needs
+u32-at-requires : tie.Need-u32-at-requires
+u32-at-requires c κs = search needs
+
+cast-usual : tie.Need-cast-usual
+cast-usual c = search needs
 
 default-deadline-requires : tie.Need-default-deadline-requires
 default-deadline-requires c κs = search needs
@@ -22,8 +24,8 @@ default-deadline-requires c κs = search needs
 deadline-stands-requires : tie.Need-deadline-stands-requires
 deadline-stands-requires c κs = search needs
 
-deadline-fine-requires : tie.Need-deadline-fine-requires
-deadline-fine-requires c κs = search needs
+deadline-ok-requires : tie.Need-deadline-ok-requires
+deadline-ok-requires c κs = search needs
 
 add-field-fault : tie.Need-add-field-fault
 add-field-fault c = search needs
@@ -33,21 +35,26 @@ field-fault-requires c κs = search needs
 
 returns : tie.Need-returns
 returns c =
-    let e = c .before .before in
-    let b = e .before .before in
-    let a = b .before in
-    let s = a .before .before in
-    field-told Deadline _ _ (s .pre .0 .0) (s .pre .0 .1) (e .deadline-stands .ensures) (ap (λ p. leb (p + 4) (length (now (s .args .s)))) (a .deadline-place .ensures .0)) (c .before .deadline-fine .ensures) (ap (λ d. eqb (s .args .row .deadline) d) (b .default-deadline .ensures)) (ap (λ p. s .args .at + p) (a .deadline-place .ensures .0)) (c .field-fault .ensures)
+    let b = c .before .before in
+    let d = b .before in
+    let v = d .before .before in
+    let p = v .before in
+    let s = p .before .before in
+    let l = now (s .args .s) in
+    let stands = b .deadline-stands .ensures in
+    let place = p .deadline-place .ensures .0 in
+    judged-told Deadline l _ (s .pre .0 .0) stands place (deadline-stated l (s .pre .0 .0) stands place (s .pre .0 .1) (v .u32-at .ensures)) (c .before .deadline-ok .ensures) (ap (λ n. eqb (v .u32-at .result) n) (d .default-deadline .ensures)) (c .field-fault .ensures)
 
 pub deadline-fault-spec : {M : Type 1} → statement M
 deadline-fault-spec =
     tie.close
     (tie.spec
     deadline-place-requires
-    add-inside
+    u32-at-requires
+    cast-usual
     default-deadline-requires
     deadline-stands-requires
-    deadline-fine-requires
+    deadline-ok-requires
     add-field-fault
     field-fault-requires
     returns)

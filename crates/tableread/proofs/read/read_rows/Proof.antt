@@ -2,7 +2,6 @@
 use Prim.Native.Nat.{_-_}
 use mathlib.Core.Path.{_≡_, sym, _∙_, ap}
 use native.Mathlib.Omega.{arith}
-use lib.ListN.{length, length-drop}
 use denote.Ref.{now}
 use borrow.Author.Needs.{needs}
 use Rattle.table.specs.declared.Table.{Table}
@@ -11,6 +10,7 @@ use Rattle.tablefile.specs.Layout.{rowSize}
 use Rattle.tableread.proofs.Files.{refused-row, bytes-left, none-left}
 use Rattle.tableread.proofs.Turns.{part-is, Filling, begins, inside, goes-on, ends-at}
 use Rattle.tableread.proofs.Headers.{few-rows}
+use Rattle.tableread.proofs.Values.{row-built, short-period}
 use Rattle.tableread.proofs.read.read_rows.Statement.{statement}
 use Rattle.tableread.proofs.read.read_rows.Tie as tie
 
@@ -35,14 +35,11 @@ part-part-end c = omega arith
 byte-requires : tie.Need-byte-requires Inv-loop μ-loop
 byte-requires c κs = search needs
 
-row-from-requires : tie.Need-row-from-requires Inv-loop μ-loop
-row-from-requires c κs = c .byte .ensures
+paced-from-requires : tie.Need-paced-from-requires Inv-loop μ-loop
+paced-from-requires c κs = c .byte .ensures
 
 row-fault-requires : tie.Need-row-fault-requires Inv-loop μ-loop
-row-fault-requires c κs =
-    let l = c .before .before .before .before in
-    let s = l .before .before in
-    ((c .before .byte .ensures, c .row-from .ensures), omega (arith, ap length (part-is (now (s .args .s)) (l .loop .at)), length-drop (l .loop .at) (now (s .args .s)), s .good .0))
+row-fault-requires c κs = ((c .before .byte .ensures, c .paced-from .ensures), omega (arith, c .before .before .before .before .before .before .good .0))
 
 enum-known-fault : tie.Need-enum-known-fault Inv-loop μ-loop
 enum-known-fault c = search needs
@@ -61,38 +58,49 @@ returns c =
 enum-told : tie.Need-enum-told Inv-loop μ-loop
 enum-told c = search needs
 
+with-deadline-requires : tie.Need-with-deadline-requires Inv-loop μ-loop
+with-deadline-requires c κs =
+    let f = c .before .before in
+    let p = f .before in
+    let b = p .before in
+    (b .byte .ensures, short-period _ _ (sym (f .row-fault .ensures) ∙ ap outcomeOf (c .enum-told .given .1)) (p .paced-from .ensures))
+
 mul-row : tie.Need-mul-row Inv-loop μ-loop
-mul-row c = let h = few-rows _ (c .before .before .before .before .before .before .before .before .before .pre .0) in omega (arith, h)
+mul-row c = let h = few-rows _ (c .before .before .before .before .before .before .before .before .before .before .pre .0) in omega (arith, h)
 
 element-set-from-row : tie.Need-element-set-from-row Inv-loop μ-loop
-element-set-from-row c = let h = few-rows _ (c .before .before .before .before .before .before .before .before .before .pre .0) in omega (arith, h)
+element-set-from-row c = let h = few-rows _ (c .before .before .before .before .before .before .before .before .before .before .pre .0) in omega (arith, h)
 
 row-size-requires : tie.Need-row-size-requires Inv-loop μ-loop
 row-size-requires c κs = search needs
 
 add-at : tie.Need-add-at Inv-loop μ-loop
 add-at c =
-    let r = c .before .before .before in
-    let l = r .before .before .before .before .before in
+    let t = c .before .before in
+    let f = t .before .before in
+    let l = f .before .before .before .before .before in
     let s = l .before .before in
-    let h = inside (now (s .args .s)) (l .loop .inv .1) (part-is (now (s .args .s)) (l .loop .at)) (sym (r .row-fault .ensures) ∙ ap outcomeOf (c .before .enum-told .given .1)) in
+    let h = inside (now (s .args .s)) (l .loop .inv .1) (part-is (now (s .args .s)) (l .loop .at)) (sym (f .row-fault .ensures) ∙ ap outcomeOf (t .enum-told .given .1)) in
     omega (arith, h, s .good .0)
 
 add-i : tie.Need-add-i Inv-loop μ-loop
-add-i c = let h = few-rows _ (c .before .before .before .before .before .before .before .before .before .before .pre .0) in omega (arith, h)
+add-i c = let h = few-rows _ (c .before .before .before .before .before .before .before .before .before .before .before .pre .0) in omega (arith, h)
 
 loop-less : tie.Need-loop-less Inv-loop μ-loop
 loop-less c = omega arith
 
 loop-again : tie.Need-loop-again Inv-loop μ-loop
 loop-again c =
-    let a = c .before .before .before in
-    let r = a .before in
-    let b = r .before in
+    let w = c .before in
+    let t = w .before in
+    let f = t .before .before in
+    let p = f .before in
+    let b = p .before in
     let l = b .before .before .before in
     let s = l .before .before in
     let h = few-rows _ (s .pre .0) in
-    (l .loop .inv .0, goes-on (now (s .args .s)) (l .loop .inv .1) (part-is (now (s .args .s)) (l .loop .at)) (omega arith) (omega (arith, h)) (r .row-from .ensures) (sym (a .row-fault .ensures) ∙ ap outcomeOf (c .before .enum-told .given .1)) (c .row-size .ensures .0 ∙ ap rowSize (b .byte .ensures)))
+    let e = sym (f .row-fault .ensures) ∙ ap outcomeOf (t .enum-told .given .1) in
+    (l .loop .inv .0, goes-on (now (s .args .s)) (l .loop .inv .1) (part-is (now (s .args .s)) (l .loop .at)) (omega arith) (omega (arith, h)) (w .with-deadline .ensures ∙ row-built _ (p .paced-from .ensures)) e (c .row-size .ensures .0 ∙ ap rowSize (b .byte .ensures)))
 
 refused-requires-2 : tie.Need-refused-requires-2 Inv-loop μ-loop
 refused-requires-2 c κs = search needs
@@ -117,12 +125,13 @@ read-rows-spec =
     part-part-start
     part-part-end
     byte-requires
-    row-from-requires
+    paced-from-requires
     row-fault-requires
     enum-known-fault
     refused-requires
     returns
     enum-told
+    with-deadline-requires
     mul-row
     element-set-from-row
     row-size-requires

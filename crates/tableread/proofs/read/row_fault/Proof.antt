@@ -1,106 +1,83 @@
--- `tableread::read::row_fault` meets its contract: each return is the first check that fails, and fields that passed lie within the file, so that the sum for the next one's place does not wrap.
-use native.Mathlib.Omega.{arith}
+-- `tableread::read::row_fault` meets its contract: the parts are asked in the order of the checks, and the first that refuses decides.
+use mathlib.Core.List.{[], _∷_, _++_}
+use mathlib.Core.Path.{_∙_}
 use denote.Ref.{now}
 use borrow.Author.Needs.{needs}
-use Rattle.table.proofs.Laws as law
-use Rattle.tableread.proofs.Faults.{no-map, bad-map, in-payload, period-inside, in-period, deadline-inside, in-deadline}
+use Rattle.tablefile.specs.Layout.{Payload, Period, Deadline, Rate, Samples}
+use Rattle.tablefile.specs.Reading.{present, judged, mapChecks, fieldChecks, row}
+use Rattle.tableread.proofs.Faults.{alone, joined}
 use Rattle.tableread.proofs.read.row_fault.Statement.{statement}
 use Rattle.tableread.proofs.read.row_fault.Tie as tie
 
-returns : tie.Need-returns
-returns c = no-map _ _ (c .if1 .taken)
-
-reserved-clear-requires : tie.Need-reserved-clear-requires
-reserved-clear-requires c κs = search needs
-
-returns-2 : tie.Need-returns-2
-returns-2 c =
-    let b = c .before in
-    let i = b .before in
-    bad-map _ _ (i .if1 .left) (i .before .before .pre .0 .0) (law.fails (b .reserved-clear .ensures) (c .if2 .taken))
+map-fault-requires : tie.Need-map-fault-requires
+map-fault-requires c κs = search needs
 
 payload-fault-requires : tie.Need-payload-fault-requires
 payload-fault-requires c κs = search needs
 
-enum-known-fault : tie.Need-enum-known-fault
-enum-known-fault c = search needs
-
-returns-3 : tie.Need-returns-3
-returns-3 c =
-    let p = c .before .before .before in
-    let a = p .before in
-    let m = a .before in
-    let i = m .before in
-    let s = i .before .before in
-    in-payload _ _ (i .if1 .left) (s .pre .0 .0) (law.holds (m .reserved-clear .ensures) (a .if2 .left)) (p .payload-fault .ensures) (c .before .fault .given .1)
-
-enum-told : tie.Need-enum-told
-enum-told c = search needs
-
 period-fault-requires : tie.Need-period-fault-requires
-period-fault-requires c κs =
-    let p = c .before .before in
-    let a = p .before in
-    let m = a .before in
-    let i = m .before in
-    let s = i .before .before in
-    let h = period-inside (now (s .args .s)) (s .args .at) (i .if1 .left) (s .pre .0 .0) (law.holds (m .reserved-clear .ensures) (a .if2 .left)) (p .payload-fault .ensures) (c .enum-told .given .1) in
-    (s .pre .0, omega (arith, h, s .pre .1))
+period-fault-requires c κs = search needs
 
-enum-known-fault-2 : tie.Need-enum-known-fault-2
-enum-known-fault-2 c = search needs
+deadline-absent-requires : tie.Need-deadline-absent-requires
+deadline-absent-requires c κs = search needs
 
-returns-4 : tie.Need-returns-4
-returns-4 c =
-    let b = c .before .before .before in
-    let e = b .before in
-    let p = e .before .before in
-    let a = p .before in
-    let m = a .before in
-    let i = m .before in
-    let s = i .before .before in
-    in-period _ _ (i .if1 .left) (s .pre .0 .0) (law.holds (m .reserved-clear .ensures) (a .if2 .left)) (p .payload-fault .ensures) (e .enum-told .given .1) (b .period-fault .ensures) (c .before .fault2 .given .1)
-
-enum-told-2 : tie.Need-enum-told-2
-enum-told-2 c = search needs
+rated-fault-requires : tie.Need-rated-fault-requires
+rated-fault-requires c κs = search needs
 
 deadline-fault-requires : tie.Need-deadline-fault-requires
-deadline-fault-requires c κs =
-    let b = c .before .before in
-    let e = b .before in
-    let p = e .before .before in
-    let a = p .before in
-    let m = a .before in
-    let i = m .before in
-    let s = i .before .before in
-    let h = deadline-inside (now (s .args .s)) (s .args .at) (i .if1 .left) (s .pre .0 .0) (law.holds (m .reserved-clear .ensures) (a .if2 .left)) (p .payload-fault .ensures) (e .enum-told .given .1) (b .period-fault .ensures) (c .enum-told2 .given .1) in
-    (s .pre .0, omega (arith, h, s .pre .1))
+deadline-fault-requires c κs = search needs
 
-returns-5 : tie.Need-returns-5
-returns-5 c =
-    let b = c .before .before .before in
-    let e = b .before in
-    let p = e .before .before in
-    let a = p .before in
-    let m = a .before in
-    let i = m .before in
-    let s = i .before .before in
-    in-deadline _ _ (i .if1 .left) (s .pre .0 .0) (law.holds (m .reserved-clear .ensures) (a .if2 .left)) (p .payload-fault .ensures) (e .enum-told .given .1) (b .period-fault .ensures) (c .before .enum-told2 .given .1) (c .deadline-fault .ensures)
+first-of-requires : tie.Need-first-of-requires
+first-of-requires c κs = search needs
+
+first-of-requires-2 : tie.Need-first-of-requires-2
+first-of-requires-2 c κs = search needs
+
+first-of-requires-3 : tie.Need-first-of-requires-3
+first-of-requires-3 c κs = search needs
+
+first-of-requires-4 : tie.Need-first-of-requires-4
+first-of-requires-4 c κs = search needs
+
+first-of-requires-5 : tie.Need-first-of-requires-5
+first-of-requires-5 c κs = search needs
+
+returns : tie.Need-returns
+unfolding row
+returns c =
+    let k = c .before in
+    let j = k .before in
+    let h = j .before in
+    let g = h .before in
+    let e = g .before in
+    let r = e .before in
+    let d = r .before in
+    let q = d .before in
+    let p = q .before in
+    let m = p .before in
+    let s = m .before .before in
+    let l = now (s .args .s) in
+    let at = s .args .at in
+    let stated = fieldChecks Payload l at ++ fieldChecks Period l at in
+    let rated = fieldChecks Rate l at ++ fieldChecks Samples l at in
+    joined (mapChecks l at ++ stated) (present Deadline l at ∷ (rated ++ judged Deadline l at ∷ []))
+    (joined (mapChecks l at) stated (m .map-fault .ensures) (joined (fieldChecks Payload l at) (fieldChecks Period l at) (p .payload-fault .ensures) (q .period-fault .ensures) (g .first-of .ensures)) (h .first-of2 .ensures))
+    (joined (present Deadline l at ∷ []) (rated ++ judged Deadline l at ∷ []) (d .deadline-absent .ensures ∙ alone _) (joined rated (judged Deadline l at ∷ []) (r .rated-fault .ensures) (e .deadline-fault .ensures ∙ alone _) (j .first-of3 .ensures)) (k .first-of4 .ensures))
+    (c .first-of5 .ensures)
 
 pub row-fault-spec : {M : Type 1} → statement M
 row-fault-spec =
     tie.close
     (tie.spec
-    returns
-    reserved-clear-requires
-    returns-2
+    map-fault-requires
     payload-fault-requires
-    enum-known-fault
-    returns-3
-    enum-told
     period-fault-requires
-    enum-known-fault-2
-    returns-4
-    enum-told-2
+    deadline-absent-requires
+    rated-fault-requires
     deadline-fault-requires
-    returns-5)
+    first-of-requires
+    first-of-requires-2
+    first-of-requires-3
+    first-of-requires-4
+    first-of-requires-5
+    returns)

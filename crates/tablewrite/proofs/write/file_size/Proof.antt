@@ -15,7 +15,7 @@ use Rattle.tablewrite.proofs.write.file_size.Statement.{statement}
 use Rattle.tablewrite.proofs.write.file_size.Tie as tie
 
 abbrev Inv-loop : tie.InvT-loop
-Inv-loop t count size₀ i₀ size i = (count ≡ t .count) × (i ≤ t .count) × (t .count ≤ mostRows) × (size ≤ headerSize + 11 * i) × (size + length (rest t i) ≡ length (fileOf (contents t)))
+Inv-loop t count size₀ i₀ size i = (count ≡ t .count) × (i ≤ t .count) × (t .count ≤ mostRows) × (size ≤ headerSize + 16 * i) × (size + length (rest t i) ≡ length (fileOf (contents t)))
 
 abbrev μ-loop : tie.MeasureT-loop
 μ-loop t count size₀ i₀ size i = count - i

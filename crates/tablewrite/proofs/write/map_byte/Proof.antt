@@ -1,4 +1,4 @@
--- `tablewrite::write::map_byte` meets its contract: each field that is not at its default adds its weight, and the class its bit.
+-- `tablewrite::write::map_byte` meets its contract: each field that the row states adds its weight, and the class its bit.
 use borrow.Author.Needs.{needs}
 use Rattle.tablewrite.proofs.Fields.{map-is}
 use Rattle.tablewrite.proofs.write.map_byte.Statement.{statement}
@@ -10,17 +10,17 @@ default-payload-requires c κs = search needs
 bit-for-requires : tie.Need-bit-for-requires
 bit-for-requires c κs = search needs
 
-default-period-requires : tie.Need-default-period-requires
-default-period-requires c κs = search needs
-
-bit-for-requires-2 : tie.Need-bit-for-requires-2
-bit-for-requires-2 c κs = search needs
+cast-bit-for : tie.Need-cast-bit-for
+cast-bit-for c = search needs
 
 default-deadline-requires : tie.Need-default-deadline-requires
 default-deadline-requires c κs = search needs
 
-bit-for-requires-3 : tie.Need-bit-for-requires-3
-bit-for-requires-3 c κs = search needs
+bit-for-requires-2 : tie.Need-bit-for-requires-2
+bit-for-requires-2 c κs = search needs
+
+pace-bit-requires : tie.Need-pace-bit-requires
+pace-bit-requires c κs = search needs
 
 add-result : tie.Need-add-result
 add-result c = search needs
@@ -36,12 +36,11 @@ add-result-3 c = search needs
 
 returns : tie.Need-returns
 returns c =
-    let f = c .before .before .before in
-    let e = f .before in
-    let a = e .before .before in
-    let b = a .before in
-    let d = b .before .before in
-    map-is _ (d .default-payload .ensures) (a .default-period .ensures) (f .default-deadline .ensures) (b .bit-for .ensures .0) (e .bit-for2 .ensures .0) (c .before .bit-for3 .ensures .0) (c .class-bit .ensures .0)
+    let b = c .before in
+    let d = b .before in
+    let e = d .before in
+    let p = e .before .before in
+    map-is _ (p .before .before .default-payload .ensures) (e .default-deadline .ensures) (p .bit-for .ensures .0) (d .bit-for2 .ensures .0) (b .pace-bit .ensures .0) (c .class-bit .ensures .0)
 
 pub map-byte-spec : {M : Type 1} → statement M
 map-byte-spec =
@@ -49,10 +48,10 @@ map-byte-spec =
     (tie.spec
     default-payload-requires
     bit-for-requires
-    default-period-requires
-    bit-for-requires-2
+    cast-bit-for
     default-deadline-requires
-    bit-for-requires-3
+    bit-for-requires-2
+    pace-bit-requires
     add-result
     add-result-2
     class-bit-requires

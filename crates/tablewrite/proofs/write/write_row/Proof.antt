@@ -4,7 +4,7 @@ use native.Mathlib.Omega.{arith}
 use borrow.Author.Needs.{needs}
 use Rattle.tablefile.proofs.Laws.{row-length}
 use Rattle.tablefile.specs.Layout.{Payload, Period, Deadline}
-use Rattle.tablewrite.proofs.Fields.{size-is, field-room, row-stored}
+use Rattle.tablewrite.proofs.Fields.{size-is, map-stored, field-room, field-stored, rated-room, row-stored}
 use Rattle.tablewrite.proofs.write.write_row.Statement.{statement}
 use Rattle.tablewrite.proofs.write.write_row.Tie as tie
 
@@ -21,7 +21,7 @@ put-field16-requires : tie.Need-put-field16-requires
 put-field16-requires c κs =
     let m = c .before .before .before .before .before .before in
     let s = m .before .before in
-    let h = field-room (s .args .row) (m .map-byte .ensures) Payload (c .payload-stands .ensures) refl in
+    let h = field-room (s .args .row) (m .map-byte .ensures) Payload (c .payload-stands .ensures) refl refl in
     omega (arith, h)
 
 period-place-requires : tie.Need-period-place-requires
@@ -30,11 +30,15 @@ period-place-requires c κs = search needs
 period-stands-requires : tie.Need-period-stands-requires
 period-stands-requires c κs = search needs
 
+stated-requires : tie.Need-stated-requires
+stated-requires c κs = search needs
+
 put-field32-requires : tie.Need-put-field32-requires
 put-field32-requires c κs =
-    let m = c .before .before .before .before .before .before .before .before .before .before .before .before in
+    let b = c .before in
+    let m = b .before .before .before .before .before .before .before .before .before .before .before .before in
     let s = m .before .before in
-    let h = field-room (s .args .row) (m .map-byte .ensures) Period (c .period-stands .ensures) (c .before .period-place .ensures .0) in
+    let h = field-room (s .args .row) (m .map-byte .ensures) Period (b .period-stands .ensures) (b .before .period-place .ensures .0) (c .stated .ensures) in
     omega (arith, h)
 
 deadline-place-requires : tie.Need-deadline-place-requires
@@ -45,10 +49,27 @@ deadline-stands-requires c κs = search needs
 
 put-field32-requires-2 : tie.Need-put-field32-requires-2
 put-field32-requires-2 c κs =
-    let m = c .before .before .before .before .before .before .before .before .before .before .before .before .before .before .before .before .before .before in
+    let m = c .before .before .before .before .before .before .before .before .before .before .before .before .before .before .before .before .before .before .before in
     let s = m .before .before in
-    let h = field-room (s .args .row) (m .map-byte .ensures) Deadline (c .deadline-stands .ensures) (c .before .deadline-place .ensures .0) in
+    let h = field-room (s .args .row) (m .map-byte .ensures) Deadline (c .deadline-stands .ensures) (c .before .deadline-place .ensures .0) refl in
     omega (arith, h)
+
+rate-place-requires : tie.Need-rate-place-requires
+rate-place-requires c κs = search needs
+
+rate-stands-requires : tie.Need-rate-stands-requires
+rate-stands-requires c κs = search needs
+
+put-rated-requires : tie.Need-put-rated-requires
+put-rated-requires c κs =
+    let y = c .before .before .before .before in
+    let x = y .before .before .before .before .before .before in
+    let w = x .before .before .before .before .before .before .before in
+    let a = w .before .before .before .before .before in
+    let m = a .before .before .before in
+    let s = m .before .before in
+    let h = rated-room (s .args .row) (m .map-byte .ensures) (c .rate-stands .ensures) (c .before .rate-place .ensures .0) in
+    omega (arith, h, s .pre, y .out4 .given, x .out3 .given, w .out2 .given, a .out .given)
 
 row-size-requires : tie.Need-row-size-requires
 row-size-requires c κs = search needs
@@ -58,19 +79,25 @@ same-length c = search needs
 
 returns : tie.Need-returns
 returns c =
-    let j = c .before .before .before in
-    let i = j .before in
-    let h = i .before in
-    let g = h .before .before .before .before in
-    let f = g .before in
-    let e = f .before in
-    let d = e .before .before .before .before in
-    let b = d .before in
-    let p = b .before .before .before .before in
-    let a = p .before .before in
-    let s = a .before .before in
-    let m = a .map-byte .ensures in
-    (size-is _ m (c .row-size .ensures .0), row-stored _ m _ (s .pre) (p .put .ensures) (b .payload-stands .ensures) (d .put-field16 .ensures) (f .period-stands .ensures) (e .period-place .ensures .0) (g .put-field32 .ensures) (i .deadline-stands .ensures) (h .deadline-place .ensures .0) (j .put-field322 .ensures))
+    let z = c .before .before .before in
+    let rs = z .before in
+    let rp = rs .before in
+    let y = rp .before .before .before .before in
+    let ds = y .before in
+    let dp = ds .before in
+    let x = dp .before .before .before .before in
+    let v = x .before in
+    let ps = v .before in
+    let pp = ps .before in
+    let w = pp .before .before .before .before in
+    let b = w .before in
+    let a = b .before .before .before .before in
+    let s = a .before .before .before .before in
+    let m = a .before .before .map-byte .ensures in
+    let one = field-stored _ m Payload (b .payload-stands .ensures) refl refl (map-stored _ m _ (a .put .ensures)) (w .put-field16 .ensures) in
+    let two = field-stored _ m Period (ps .period-stands .ensures) (pp .period-place .ensures .0) (v .stated .ensures) one (x .put-field32 .ensures) in
+    let three = field-stored _ m Deadline (ds .deadline-stands .ensures) (dp .deadline-place .ensures .0) refl two (y .put-field322 .ensures) in
+    (size-is _ m (c .row-size .ensures .0), row-stored _ m (rs .rate-stands .ensures) (rp .rate-place .ensures .0) _ (s .pre) three (z .put-rated .ensures))
 
 pub write-row-spec : {M : Type 1} → statement M
 write-row-spec =
@@ -82,10 +109,14 @@ write-row-spec =
     put-field16-requires
     period-place-requires
     period-stands-requires
+    stated-requires
     put-field32-requires
     deadline-place-requires
     deadline-stands-requires
     put-field32-requires-2
+    rate-place-requires
+    rate-stands-requires
+    put-rated-requires
     row-size-requires
     same-length
     returns)

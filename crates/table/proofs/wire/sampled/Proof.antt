@@ -1,0 +1,24 @@
+-- `table::wire::sampled` meets its contract: a quotient by 0 is 0, and else it is the definition's.
+use mathlib.Core.Path.{refl, sym}
+use native.Mathlib.Nat.{div-zero}
+use borrow.Author.Needs.{needs}
+use Rattle.table.specs.Wire.{paced}
+use Rattle.table.proofs.wire.sampled.Statement.{statement}
+use Rattle.table.proofs.wire.sampled.Tie as tie
+
+returns : tie.Need-returns
+unfolding paced
+returns c = rw (c .if1 .taken) (sym (div-zero _))
+
+mul-result : tie.Need-mul-result
+mul-result c = search needs
+
+div-result : tie.Need-div-result
+div-result c = search needs
+
+returns-2 : tie.Need-returns-2
+unfolding paced
+returns-2 c = refl
+
+pub sampled-spec : {M : Type 1} → statement M
+sampled-spec = tie.close (tie.spec returns mul-result div-result returns-2)
