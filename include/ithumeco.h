@@ -17,12 +17,12 @@
 
 /* The version of the bytes that this header speaks of: a record's first word. A
  * record of another version is answered ITHUMECO_BROKEN and never misread. */
-#define ITHUMECO_VERSION 1000002
+#define ITHUMECO_VERSION 1000003
 
 /* Sizes in bytes. */
 #define ITHUMECO_CALL_SIZE 24
 #define ITHUMECO_ANSWER_SIZE 40
-#define ITHUMECO_RECORD_SIZE 4096
+#define ITHUMECO_RECORD_SIZE 5632
 #define ITHUMECO_BOUNDS_SIZE 256
 
 /* The largest table file, in bytes. */
@@ -63,6 +63,7 @@
 #define ITHUMECO_SLOPES 8
 #define ITHUMECO_SHARES 9
 #define ITHUMECO_DEADLINE 10
+#define ITHUMECO_TOO_MANY_FRAMES 20
 /* a call on a port, in an answer's first word: */
 #define ITHUMECO_NO_SUCH_ROW 11
 #define ITHUMECO_PAYLOAD 12

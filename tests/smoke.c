@@ -1,4 +1,4 @@
-/* Calls each function of include/ithumeco.h on the specimen, and some on a row that names a rate; holds what it gives to the documents' numbers, and the header's names to the library. */
+/* Calls each function of include/ithumeco.h on the specimen, and some on a row that names a rate and on one with several frames in the port; holds what it gives to the documents' numbers, and the header's names to the library. */
 #include <stdio.h>
 #include <string.h>
 #include "ithumeco.h"
@@ -134,6 +134,45 @@ static void rated(void)
     expect("neither a period nor a rate", made(ITHUMECO_ADVANCE, 0, 0), ITHUMECO_BROKEN);
 }
 
+/* A row of B that may have 62 frames in the port, 64 with its two neighbours, and one of A. A best-effort frame lets three of them meet: their words in
+ * a record, which may stand in any order, a period or more apart, the newest at the row's last instant. With one byte more in its neighbours' frames the
+ * class would have 65. */
+static void crowded(void)
+{
+    static uint8_t crowd[] = {'A', 'V', 'B', '1', 0, 0, 3, 232, 0, 11, 109, 200, 5, 220, 4, 3, 5, 220, 0, 30, 132, 128, 131, 4, 210, 0, 15, 66, 64,
+                              131, 4, 210, 0, 15, 66, 64, 134, 0, 0, 0, 113, 0, 0, 27, 188};
+    const size_t queue_b = 393, last = 635 + 2 * 3;
+    expect("open a crowd", ithumeco_open(crowd, sizeof crowd, record, sizeof record), 0);
+    expect("best effort", made(ITHUMECO_OFFER_BEST, 1500, 0), 0);
+    expect("it begins", made(ITHUMECO_ADVANCE, 1, 0), 0);
+    for (uint64_t i = 0; i < 3; i++) {
+        expect("taken", made(ITHUMECO_OFFER, 3, 42), 0);
+        expect("how many wait", ithumeco_get_word(record, queue_b), i + 1);
+        expect("instant of the newest", ithumeco_get_word(record, queue_b + 3 + 3 * i), 1 + 113 * i);
+        expect("last instant", ithumeco_get_word(record, last + 1), 1 + 113 * i);
+        expect("nearly a period", made(ITHUMECO_ADVANCE, 112, 0), 0);
+        expect("early", made(ITHUMECO_OFFER, 3, 42), ITHUMECO_EARLY);
+        expect("a period", made(ITHUMECO_ADVANCE, 1, 0), 0);
+    }
+    ithumeco_put_word(record, queue_b + 3, 1 + 2 * 113);
+    ithumeco_put_word(record, queue_b + 9, 1);
+    expect("another order", made(ITHUMECO_ADVANCE, 0, 0), 0);
+    ithumeco_put_word(record, queue_b + 6, 113);
+    expect("less than a period apart", made(ITHUMECO_ADVANCE, 0, 0), ITHUMECO_BROKEN);
+    ithumeco_put_word(record, queue_b + 6, 1 + 113);
+    ithumeco_put_word(record, last + 1, 1);
+    expect("the oldest at the last instant", made(ITHUMECO_ADVANCE, 0, 0), ITHUMECO_BROKEN);
+    ithumeco_put_word(record, last + 1, 1 + 2 * 113);
+    expect("as it was", made(ITHUMECO_ADVANCE, 0, 0), 0);
+    ithumeco_put_word(record, queue_b, 65);
+    expect("more than there are places", made(ITHUMECO_ADVANCE, 0, 0), ITHUMECO_BROKEN);
+    crowd[24]++;
+    crowd[31]++;
+    uint64_t code = ithumeco_open(crowd, sizeof crowd, record, sizeof record);
+    expect("65 in a class", ITHUMECO_NUMBER(code), ITHUMECO_TOO_MANY_FRAMES);
+    expect("which is B", ITHUMECO_PLACE(code), 1);
+}
+
 static void refusals(void)
 {
     expect("open", ithumeco_open(file, size, record, sizeof record), 0);
@@ -185,6 +224,7 @@ int main(void)
     largest_file();
     runs();
     rated();
+    crowded();
     refusals();
     nothing();
     return failures != 0;

@@ -3,3 +3,4 @@ mod Shift
 mod Waiting
 mod Begins
 mod Judged
+mod Sent

@@ -1,5 +1,5 @@
 -- What the private functions of the advance promise each other. No public promise cites this file.
-use Prim.Native.Nat.{ℕ}
+use Prim.Native.Nat.{ℕ, _+_}
 use mathlib.Core.Bool.{false, cond}
 use mathlib.Core.Path.{_≡_}
 use lib.Dec.{leb, eqb}
@@ -13,6 +13,8 @@ use Rattle.machine.specs.Time.{progress}
 use Rattle.machine.specs.Calls.{passed, advanceAnswer, Became}
 use Rattle.bytetime.specs.declared.Sender.{Sender}
 use Rattle.bytetime.specs.declared.Hot.{Hot}
+use Rattle.bytetime.specs.declared.Ran.{Ran}
+use Rattle.bytetime.specs.Ports.{wireNow}
 
 -- A queue's head, by how many frames wait and the frame in the first place.
 abbrev pub headBy : ℕ → Frame → Frame
@@ -30,6 +32,21 @@ hotWith p w left =
       waitsa = leb 1 (p .a .count);
       waitsb = leb 1 (p .b .count);
       waitsbest = leb 1 (p .best .count);
+    }
+
+-- A record after byte-times on its numbers, with the frame on the wire, and each queue as it was.
+abbrev pub settledBy : Port → Ran → Frame → Port
+settledBy p ran f =
+    record {
+      table = p .table;
+      clock = p .clock + ran .passed;
+      credita = ran .hot .credita;
+      creditb = ran .hot .creditb;
+      a = p .a;
+      b = p .b;
+      best = p .best;
+      last = p .last;
+      wire = wireNow (ran .hot .sender) f (ran .hot .left);
     }
 
 -- A refused advance: the record as it was.

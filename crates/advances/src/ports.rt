@@ -1,29 +1,22 @@
 // The port that byte-times leave.
 ghost use mathlib.Core.Path.{_≡_};
-ghost use mathlib.Core.Bool.{cond, _&&_};
+ghost use mathlib.Core.Bool.{cond};
 ghost use Prim.Native.Nat.{_+_, _≤_};
 ghost use Rattle.machine.specs.declared.Ended.{Ended};
-ghost use Rattle.machine.specs.Limits.{lastClock, classPlaces, bestPlaces};
-ghost use Rattle.machine.specs.State.{waiting, view};
-ghost use Rattle.machine.specs.Calls.{Became};
-ghost use Rattle.bytetime.specs.Ports.{headFor, frameOn, frameOf, wireNow, queueAfter, afterRun};
+ghost use Rattle.machine.specs.Limits.{lastClock};
+ghost use Rattle.machine.specs.State.{view};
+ghost use Rattle.bytetime.specs.Ports.{headFor, frameOn, frameOf, wireNow};
+ghost use Rattle.advances.specs.Steps.{settledBy};
 use crate::heads::best_head;
-use crate::heads::best_shifted;
 use crate::heads::head;
 use crate::heads::no_frame;
-use crate::heads::shifted;
 use bytetime::Hot;
 use bytetime::Ran;
 use bytetime::Sender;
-use bytetime::senders::is_a;
-use bytetime::senders::is_b;
-use bytetime::senders::is_best;
 use bytetime::senders::is_nobody;
-use machine::BestQueue;
 use machine::Ended;
 use machine::Frame;
 use machine::Port;
-use machine::Queue;
 use machine::Wire;
 
 // The head of a sender's queue.
@@ -72,55 +65,19 @@ fn wire_now(who: Sender, f: Frame, left: u32) -> Wire
     Wire::Sending(f, left)
 }
 
-// A head has left its queue for this sender.
-fn gone(moved: bool, is: bool) -> bool
-    ensures { λ r. ⌜ r ≡ moved && is ⌝ }
-{
-    if moved {
-        return is;
-    }
-    false
-}
-
-// A class's queue, without its head if that is gone.
-fn queue_after(gone: bool, q: Queue) -> Queue
-    requires { ⌜ q .count ≤ classPlaces ⌝ }
-    ensures { λ r. ⌜ waiting (r .count) (r .frames) ≡ queueAfter gone (waiting (q .count) (q .frames)) ⌝ }
-{
-    if gone {
-        return shifted(q);
-    }
-    q
-}
-
-// The best-effort queue, without its head if that is gone.
-fn best_after(gone: bool, q: BestQueue) -> BestQueue
-    requires { ⌜ q .count ≤ bestPlaces ⌝ }
-    ensures { λ r. ⌜ waiting (r .count) (r .frames) ≡ queueAfter gone (waiting (q .count) (q .frames)) ⌝ }
-{
-    if gone {
-        return best_shifted(q);
-    }
-    q
-}
-
-// The record after byte-times on its numbers, with the frame that is on the wire.
-pub fn rebuilt(p: Port, ran: Ran, f: Frame) -> Port
-    requires { ⌜ p .a .count ≤ classPlaces ⌝ }
-    requires { ⌜ p .b .count ≤ classPlaces ⌝ }
-    requires { ⌜ p .best .count ≤ bestPlaces ⌝ }
+// The record after byte-times on its numbers, with the frame that is on the wire; every frame that waited still waits.
+pub fn settled(p: Port, ran: Ran, f: Frame) -> Port
     requires { ⌜ p .clock + ran .passed ≤ lastClock ⌝ }
-    requires { ⌜ f ≡ frameOf (view p) (ran .hot) ⌝ }
-    ensures { λ r. ⌜ Became (afterRun (view p) ran) p r ⌝ }
+    ensures { λ r. ⌜ r ≡ settledBy p ran f ⌝ }
 {
     let clock = p.clock + ran.passed;
     let h = ran.hot;
     let who = h.sender;
     let wire = wire_now(who, f, h.left);
-    let a = queue_after(gone(h.moved, is_a(who)), p.a);
-    let b = queue_after(gone(h.moved, is_b(who)), p.b);
-    let best = best_after(gone(h.moved, is_best(who)), p.best);
     let table = p.table;
+    let a = p.a;
+    let b = p.b;
+    let best = p.best;
     let last = p.last;
     Port {
         table,

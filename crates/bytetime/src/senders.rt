@@ -1,6 +1,6 @@
 // Whose frame is on the wire.
 ghost use mathlib.Core.Path.{_≡_};
-ghost use Rattle.bytetime.specs.Bytes.{isA, isB, isBest, isNobody};
+ghost use Rattle.bytetime.specs.Bytes.{isA, isB, isNobody};
 use crate::Sender;
 
 pub fn is_a(s: Sender) -> bool
@@ -22,17 +22,6 @@ pub fn is_b(s: Sender) -> bool
         Sender::ClassA => false,
         Sender::ClassB => true,
         Sender::BestEffort => false,
-    }
-}
-
-pub fn is_best(s: Sender) -> bool
-    ensures { λ r. ⌜ r ≡ isBest s ⌝ }
-{
-    match s {
-        Sender::Nobody => false,
-        Sender::ClassA => false,
-        Sender::ClassB => false,
-        Sender::BestEffort => true,
     }
 }
 

@@ -38,6 +38,7 @@ refusal-code (refusals.Value k) p e = omega (arith, e)
 refusal-code refusals.Slopes p e = omega (arith, e)
 refusal-code (refusals.Shares c) p e = omega (arith, e)
 refusal-code (refusals.Deadline k) p e = omega (arith, e)
+refusal-code (refusals.Frames c) p e = omega (arith, e)
 
 -- so a code of 0 is no refusal
 pub reading-zero : (a : Reading) → codeOf (files.outcomeOf a) ≡ 0 → files.outcomeOf a ≡ accepted

@@ -1,4 +1,4 @@
--- Document 01's facts (a) to (g) and those of rows that name a sample rate, by computing the definitions.
+-- Document 01's facts (a) to (g), those of rows that name a sample rate, and those of deadlines longer than the period (C-12), by computing the definitions.
 use Prim.Native.Nat.{ℕ, _+_, _-_, _≤_}
 use mathlib.Core.Bool.{false}
 use mathlib.Core.List.{[], _∷_}
@@ -12,21 +12,21 @@ use Rattle.table.specs.Checks.{accepted, passing}
 use Rattle.table.specs.Ranges.{countOk, headerOk, paceOk, rowOk, ranged}
 use Rattle.table.proofs.Laws.{rated-period}
 use Rattle.planner.specs.Sums.{sumOver, maxOver, members, largest, total, shares, bestSize}
-use Rattle.planner.specs.Bound.{blocking, residenceIn, residence, bound, bounds}
-use Rattle.planner.specs.Opening.{usedOk, slopesOk, sharesOk, timely, opening}
-use Rattle.machine.specs.Limits.{mostOf}
-use Rattle.machine.specs.declared.Wire.the-variants.{Free}
+use Rattle.planner.specs.Bound.{blocking, residenceIn, residence, bound, mostOf, mostIn, bounds}
+use Rattle.planner.specs.Opening.{usedOk, slopesOk, sharesOk, timely, roomOk, opening}
+use Rattle.machine.specs.declared.Frame.{Frame}
+use Rattle.machine.specs.declared.Wire.the-variants.{Free, Sending}
 use Rattle.machine.specs.State.{Instant, never, at, State, fresh}
 use Rattle.machine.specs.Time.{owner, start, reportedIn, byteTime, endsIn, progress}
-use Rattle.machine.specs.Record.{tableSound, clockSound, creditSound, bestSound, namesSound, queuesSound, sizesSound, leftSound, framesTaken, rowsTaken, held, heldSound, latestSound, ageSound, sound}
+use Rattle.machine.specs.Record.{tableSound, clockSound, creditSound, bestSound, namesSound, queuesSound, sizesSound, leftSound, framesTaken, rowsTaken, takenOf, heldSound, apartSound, latestSound, ageSound, sound}
 use Rattle.machine.specs.Calls.{offer, advance, tooSoon, after, answer, offerCheck, bestCheck, advanceCheck, takeRow, takeBest}
 use Rattle.machine.specs.Run.{clockOf, lastTaken}
 use Rattle.machine.proofs.EveryList.{every-list-ran}
 use Rattle.tablefile.specs.Layout.{valueAt, bytesOf, defaultPayload, defaultPeriod, defaultDeadline, bitOf}
 use Rattle.tablefile.specs.Reading.{opens, header, pacedFrom, rowFrom, row, rowsChecks, rowsFrom, rowsEnd, readFile}
 use Rattle.tablefile.specs.Writing.{mapByte, rowBytes, rowsBytes, headerBytes, fileOf}
-use Rattle.facts.specs.Specimen.{specimen, sampled, sampledTable}
-use Rattle.facts.specs.Facts.{played, port, inG, soon, twice, NeverEarly, Facts}
+use Rattle.facts.specs.Specimen.{specimen, sampled, sampledTable, often}
+use Rattle.facts.specs.Facts.{played, port, inG, soon, twice, NeverEarly, four, almost, Facts}
 
 -- the port of (g) before the second offer: worked out once, for three facts
 abbrev stateG : State
@@ -36,12 +36,44 @@ stateG = record { table = specimen; clock = 15624; credita = pos 0; creditb = po
 abbrev stateAt : ℕ → ℕ → State
 stateAt now taken = record { table = sampled; clock = now; credita = pos 0; creditb = pos 0; a = []; b = []; best = []; last = at taken ∷ never ∷ never ∷ []; wire = Free }
 
+-- those of C-12: with four frames of the row in the port; at 480, the first has ended and the second is on the wire
+abbrev oftenFrame : ℕ → Frame
+oftenFrame instant = record { source = 0; size = 84; taken = instant }
+
+abbrev stateFour : State
+stateFour =
+    record {
+      table = often;
+      clock = 361;
+      credita = pos 270000000;
+      creditb = pos 0;
+      a = oftenFrame 1 ∷ oftenFrame 121 ∷ oftenFrame 241 ∷ oftenFrame 361 ∷ [];
+      b = [];
+      best = [];
+      last = at 361 ∷ [];
+      wire = Sending (record { source = 32; size = 362; taken = 0 }) 1;
+    }
+
+abbrev stateFifth : State
+stateFifth =
+    record {
+      table = often;
+      clock = 480;
+      credita = pos 241250000;
+      creditb = pos 0;
+      a = oftenFrame 241 ∷ oftenFrame 361 ∷ [];
+      b = [];
+      best = [];
+      last = at 361 ∷ [];
+      wire = Sending (oftenFrame 121) 50;
+    }
+
 -- demand 3's claim about offers that come in time
 not-soon : (l : Instant) (now instant gap : ℕ) → l ≡ at instant → now ≡ instant + gap → 17006 ≤ gap → tooSoon l now 17006 ≡ false
 not-soon l now instant gap e f h = rw e (le-ltb (now - instant) 17006 (omega arith))
 
 accepts : opening sampled ≡ accepted
-unfolding ceilDiv wireSize sizeFor sizeOf paced periodOf shareOf rowsOf inUse passing countOk headerOk paceOk rowOk ranged sumOver maxOver members largest total shares bestSize blocking residenceIn residence bound bounds usedOk slopesOk sharesOk timely opening
+unfolding ceilDiv wireSize sizeFor sizeOf paced periodOf shareOf rowsOf inUse passing countOk headerOk paceOk rowOk ranged sumOver maxOver members largest total shares bestSize blocking residenceIn residence bound mostOf mostIn bounds usedOk slopesOk sharesOk timely roomOk opening
 accepts = refl
 
 never-early : NeverEarly
@@ -51,11 +83,13 @@ never-early cs payload instant gap a before h few last long now =
     d .space 0 payload a before h (record { below = omega arith }) few (not-soon (lastTaken 0 before) (clockOf before) instant gap last now long)
 
 pub facts : Facts
-unfolding ceilDiv wireSize sizeFor sizeOf paced periodOf shareOf rowsOf inUse passing countOk headerOk paceOk rowOk ranged sumOver maxOver members largest total shares bestSize blocking residenceIn residence bound bounds usedOk slopesOk sharesOk timely opening mostOf fresh owner start reportedIn byteTime endsIn progress tableSound clockSound creditSound bestSound namesSound queuesSound sizesSound leftSound framesTaken rowsTaken held heldSound latestSound ageSound sound offerCheck bestCheck advanceCheck takeRow takeBest valueAt bytesOf defaultPayload defaultPeriod defaultDeadline bitOf opens header pacedFrom rowFrom row rowsChecks rowsFrom rowsEnd readFile mapByte rowBytes rowsBytes headerBytes fileOf
+unfolding ceilDiv wireSize sizeFor sizeOf paced periodOf shareOf rowsOf inUse passing countOk headerOk paceOk rowOk ranged sumOver maxOver members largest total shares bestSize blocking residenceIn residence bound mostOf mostIn bounds usedOk slopesOk sharesOk timely roomOk opening fresh owner start reportedIn byteTime endsIn progress tableSound clockSound creditSound bestSound namesSound queuesSound sizesSound leftSound framesTaken rowsTaken takenOf heldSound apartSound latestSound ageSound sound offerCheck bestCheck advanceCheck takeRow takeBest valueAt bytesOf defaultPayload defaultPeriod defaultDeadline bitOf opens header pacedFrom rowFrom row rowsChecks rowsFrom rowsEnd readFile mapByte rowBytes rowsBytes headerBytes fileOf
 facts =
     let g : port inG ≡ stateG = refl in
     let o : played (fresh sampled) soon ≡ stateAt 17005 0 = refl in
     let w : played (stateAt 17006 0) twice ≡ stateAt 34013 17006 = refl in
+    let h : played (fresh often) four ≡ stateFour = refl in
+    let f : played stateFour almost ≡ stateFifth = refl in
     record {
       table = refl;
       reads = refl;
@@ -94,4 +128,23 @@ facts =
       turn-second = ap (λ s. answer (played (after s (advance 1)) twice) (offer 0 58)) o ∙ ap (λ s. answer s (offer 0 58)) w;
       turn-early = ap (λ s. answer s (offer 0 58)) o;
       turn-always = never-early;
+      long-table = refl;
+      long-reads = refl;
+      long-writes = refl;
+      long-bounds = refl;
+      long-accepts = refl;
+      long-most = refl;
+      four-held = ap (λ s. takenOf 0 s) h;
+      four-first = ap (λ s. answer (after s (advance 120)) (advance 119)) h;
+      fifth-clock = ap (λ s. played s almost .clock) h ∙ ap (λ s. s .clock) f;
+      fifth-held = ap (λ s. takenOf 0 (played s almost)) h ∙ ap (λ s. takenOf 0 s) f;
+      fifth-early = ap (λ s. answer (played s almost) (offer 0 42)) h ∙ ap (λ s. answer s (offer 0 42)) f;
+      fifth-taken = ap (λ s. answer (after (played s almost) (advance 1)) (offer 0 42)) h ∙ ap (λ s. answer (after s (advance 1)) (offer 0 42)) f;
+      fifth-four = ap (λ s. takenOf 0 (after (after (played s almost) (advance 1)) (offer 0 42))) h ∙ ap (λ s. takenOf 0 (after (after s (advance 1)) (offer 0 42))) f;
+      room-bounds = refl;
+      room-64 = refl;
+      room-accepts = refl;
+      room-65 = refl;
+      room-refuses = refl;
+      room-late = refl;
     }

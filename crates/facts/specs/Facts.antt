@@ -1,6 +1,6 @@
--- One table of facts: what the definitions themselves give for the specimen, and for the same with two rows that name a sample rate.
+-- One table of facts: what the definitions themselves give for the specimen, for the same with two rows that name a sample rate, and for C-12's tables.
 use Prim.Native.Nat.{ℕ, _+_, _≤_}
-use mathlib.Core.List.{List, [], _∷_, map}
+use mathlib.Core.List.{List, [], _∷_, _++_, map}
 use mathlib.Core.Bool.{true}
 use mathlib.Core.Path.{_≡_}
 use lib.IntN.{pos, negsuc}
@@ -11,15 +11,16 @@ use Rattle.table.specs.Wire.{wireSize, sizeOf, paced, periodOf, shareOf}
 use Rattle.table.specs.Rows.{contents}
 use Rattle.table.specs.Checks.{accepted, refused}
 use Rattle.table.specs.Ranges.{paceOk}
-use Rattle.planner.specs.Bound.{blocking, bounds}
+use Rattle.planner.specs.Bound.{blocking, bounds, mostOf, mostIn}
 use Rattle.planner.specs.Opening.{opening}
 use Rattle.machine.specs.declared.Ended.the-variants.{Reported}
 use Rattle.machine.specs.State.{State, at, fresh}
+use Rattle.machine.specs.Record.{takenOf}
 use Rattle.machine.specs.Calls.{Call, offer, offerBest, advance, Answer, taken, passed, denied, after, answer}
 use Rattle.machine.specs.Run.{Event, event, clockOf, answered, Happened, lastTaken}
 use Rattle.tablefile.specs.Reading.{readFile}
 use Rattle.tablefile.specs.Writing.{fileOf}
-use Rattle.facts.specs.Specimen.{specimen, specimenWith, specimenTable, specimenBytes, sampled, sampledTable, sampledBytes}
+use Rattle.facts.specs.Specimen.{specimen, specimenWith, specimenTable, specimenBytes, sampled, sampledTable, sampledBytes, oftenRow, often, oftenTable, oftenBytes, crowded}
 
 -- The port after calls, the first one first.
 abbrev pub played : State → List Call → State
@@ -55,6 +56,14 @@ twice = offer 0 58 ∷ advance 100 ∷ advance 16907 ∷ []
 -- offered every 17,006 and 17,007 byte-times in turn is never early.
 abbrev pub NeverEarly : Type 0
 NeverEarly = (cs : List Call) (payload instant gap : ℕ) (a : Answer) (before : List Event) → Happened (event (offer 0 payload) a) before (answered sampled cs) → payload ≤ 58 → lastTaken 0 before ≡ at instant → 17006 ≤ gap → clockOf before ≡ instant + gap → a ≡ taken
+
+-- C-12: best effort 320 holds the wire for 362 byte-times, and row 0 is offered at 1, 121, 241 and 361: each offer a period after the last, and no frame has ended.
+abbrev pub four : List Call
+four = offerBest 320 ∷ advance 1 ∷ offer 0 42 ∷ advance 120 ∷ offer 0 42 ∷ advance 120 ∷ offer 0 42 ∷ advance 120 ∷ offer 0 42 ∷ []
+
+-- Then best effort ends at 362 and the first frame of the row at 446; the clock goes on to 480, where a fifth is early by one byte-time.
+abbrev pub almost : List Call
+almost = advance 120 ∷ advance 119 ∷ advance 34 ∷ []
 
 pub record Facts : Type 0 where
   -- the table record says what the specimen says
@@ -102,3 +111,26 @@ pub record Facts : Type 0 where
   pub turn-second : answer (played (played (fresh sampled) once) twice) (offer 0 58) ≡ taken
   pub turn-early : answer (played (fresh sampled) soon) (offer 0 58) ≡ denied 13 0
   pub turn-always : NeverEarly
+  -- C-12: a deadline of four periods, read and written; the table is accepted, its bound is above three periods and its row may have four frames in the port
+  pub long-table : contents oftenTable ≡ often
+  pub long-reads : readFile oftenBytes ≡ record { outcome = accepted; table = oftenTable }
+  pub long-writes : fileOf often ≡ oftenBytes
+  pub long-bounds : bounds often ≡ 474 ∷ replicate 31 0
+  pub long-accepts : opening often ≡ accepted
+  pub long-most : mostOf often oftenRow ≡ 4
+  -- all four offers are taken, and their frames are in the port at once; the first is reported 445 byte-times after it was taken
+  pub four-held : takenOf 0 (played (fresh often) four) ≡ 1 ∷ 121 ∷ 241 ∷ 361 ∷ []
+  pub four-first : answer (played (fresh often) (four ++ advance 120 ∷ [])) (advance 119) ≡ passed 84 (Reported (record { source = 0; size = 84; taken = 1 }))
+  -- 119 byte-times after the fourth a fifth is early, though no more than three frames of the row are in the port; after 120 it is taken, and they are four again
+  pub fifth-clock : played (fresh often) (four ++ almost) .clock ≡ 480
+  pub fifth-held : takenOf 0 (played (fresh often) (four ++ almost)) ≡ 121 ∷ 241 ∷ 361 ∷ []
+  pub fifth-early : answer (played (fresh often) (four ++ almost)) (offer 0 42) ≡ denied 13 0
+  pub fifth-taken : answer (played (fresh often) (four ++ almost ++ advance 1 ∷ [])) (offer 0 42) ≡ taken
+  pub fifth-four : takenOf 0 (played (fresh often) (four ++ almost ++ advance 1 ∷ offer 0 42 ∷ [])) ≡ 121 ∷ 241 ∷ 361 ∷ 481 ∷ []
+  -- counts that sum to 64 in a class are accepted; a byte more of best effort makes them 65, refused with 20, place 0 for A, 1 for B; a bound above its deadline comes first
+  pub room-bounds : bounds (crowded B 1380 7321) ≡ 7321 ∷ 6902 ∷ 6902 ∷ 6902 ∷ replicate 28 0
+  pub room-64 : map (λ c. mostIn c (crowded c 1379 7321)) (A ∷ B ∷ []) ≡ 64 ∷ 64 ∷ []
+  pub room-accepts : map (λ c. opening (crowded c 1379 7321)) (A ∷ B ∷ []) ≡ accepted ∷ accepted ∷ []
+  pub room-65 : map (λ c. mostIn c (crowded c 1380 7321)) (A ∷ B ∷ []) ≡ 65 ∷ 65 ∷ []
+  pub room-refuses : map (λ c. opening (crowded c 1380 7321)) (A ∷ B ∷ []) ≡ refused 20 0 ∷ refused 20 1 ∷ []
+  pub room-late : map (λ c. opening (crowded c 1380 7320)) (A ∷ B ∷ []) ≡ refused 10 0 ∷ refused 10 0 ∷ []

@@ -1,7 +1,9 @@
 -- Document 01's specimen port: what its table says, the table record that its file is read into, and the file's bytes; and the same with two rows that name a sample rate.
+-- Behind it the tables of C-12: a deadline longer than the period, and rows whose frames fill a class queue.
 use Prim.Native.Nat.{ℕ}
 use mathlib.Core.List.{List, [], _∷_, _++_}
 use lib.ListN.{replicate}
+use Rattle.table.specs.declared.Class.{Class}
 use Rattle.table.specs.declared.Class.the-variants.{A, B}
 use Rattle.table.specs.declared.Pace.the-variants.{Period, Rated}
 use Rattle.table.specs.declared.Row.{Row}
@@ -66,3 +68,36 @@ sampledBytes =
     ∷ 0x0D ∷ 0x01 ∷ 0x02 ∷ 0x00 ∷ 0x00 ∷ 0x17 ∷ 0x70 ∷ 0x00 ∷ 0x00 ∷ 0xBB ∷ 0x80 ∷ 0x06
     ∷ 0x81 ∷ 0x01 ∷ 0xCA
     ∷ []
+
+-- C-12: one row, a frame every 120 byte-times, with a deadline of four periods; its bound is above three.
+abbrev pub oftenRow : Row
+oftenRow = record { class = A; payload = 42; pace = Period 120; deadline = 480 }
+
+abbrev pub often : Contents
+often = record { header = record { idlea = 750000; idleb = 0; payload = 320 }; rows = oftenRow ∷ [] }
+
+abbrev pub oftenTable : Table
+oftenTable = record { header = often .header; count = 1; rows = often .rows ++ replicate 31 noRow }
+
+-- Its file, 24 bytes: the row states period and deadline.
+abbrev pub oftenBytes : List ℕ
+oftenBytes =
+    0x41 ∷ 0x56 ∷ 0x42 ∷ 0x31
+    ∷ 0x00 ∷ 0x0B ∷ 0x71 ∷ 0xB0
+    ∷ 0x00 ∷ 0x00 ∷ 0x00 ∷ 0x00
+    ∷ 0x01 ∷ 0x40
+    ∷ 0x01
+    ∷ 0x06 ∷ 0x00 ∷ 0x00 ∷ 0x00 ∷ 0x78 ∷ 0x00 ∷ 0x00 ∷ 0x01 ∷ 0xE0
+    ∷ []
+
+-- C-12: one class alone, whose first row has a frame every 120 byte-times and three neighbours with long frames; with a given best-effort payload, and a given deadline for row 0.
+abbrev pub slopesOf : Class → ℕ → Header
+slopesOf A best = record { idlea = 750000; idleb = 0; payload = best }
+slopesOf B best = record { idlea = 0; idleb = 750000; payload = best }
+
+abbrev pub crowded : Class → (best deadline : ℕ) → Contents
+crowded c best d =
+    record {
+      header = slopesOf c best;
+      rows = record { class = c; payload = 42; pace = Period 120; deadline = d } ∷ replicate 3 (record { class = c; payload = 1300; pace = Period 1000000; deadline = 1000000 });
+    }

@@ -12,24 +12,21 @@ use Rattle.table.specs.Rows.{Contents, rowAt, inUse}
 use Rattle.planner.specs.Sums.{inClass, bestSize}
 use Rattle.machine.specs.declared.Frame.{Frame}
 use Rattle.machine.specs.Limits.{bestMark}
-use Rattle.machine.specs.State.{Instant, never}
-use Rattle.machine.specs.Record.{isAt}
 
--- A row's frame by its row, the row's last instant and a limit of age: of the class, of a fitting size, taken at that instant and not after the clock, younger than the
--- limit.
-unfoldable pub rowTest : Class → Frame → Row → Instant → ℕ → ℕ → Bool
-rowTest c f r l limit now =
-    (inClass c r && (leb leastSize (f .size) && leb (f .size) (sizeOf r))) && ((leb (f .taken) now && isAt (f .taken) l) && ltb (now - f .taken) limit)
+-- A row's frame by its row and a limit of age: of the class, of a fitting size, not taken after the clock, younger than the limit.
+unfoldable pub rowTest : Class → Frame → Row → ℕ → ℕ → Bool
+rowTest c f r limit now =
+    (inClass c r && (leb leastSize (f .size) && leb (f .size) (sizeOf r))) && (leb (f .taken) now && ltb (now - f .taken) limit)
 
--- The same of a frame that names its row, by the rows, their limits and their instants.
-unfoldable pub frameTest : Class → Contents → List ℕ → List Instant → ℕ → Frame → Bool
-frameTest c t limits ls now f = inUse t (f .source) && rowTest c f (rowAt t (f .source)) (getD ls (f .source) never) (getD limits (f .source) 0) now
+-- The same of a frame that names its row, by the rows and their limits.
+unfoldable pub frameTest : Class → Contents → List ℕ → ℕ → Frame → Bool
+frameTest c t limits now f = inUse t (f .source) && rowTest c f (rowAt t (f .source)) (getD limits (f .source) 0) now
 
 -- A best-effort frame: its mark, a fitting size, not taken after the clock.
 unfoldable pub bestTest : ℕ → ℕ → Frame → Bool
 bestTest most now f = (eqb (f .source) bestMark && (leb leastSize (f .size) && leb (f .size) most)) && leb (f .taken) now
 
 -- The frame on the wire: bytes left 1 to the size, and a row's frame by its row's class or a best-effort frame.
-unfoldable pub sendingTest : Contents → List ℕ → List Instant → ℕ → Frame → ℕ → Bool
-sendingTest t limits ls now f left =
-    (leb 1 left && leb left (f .size)) && cond (inUse t (f .source)) (frameTest (rowAt t (f .source) .class) t limits ls now f) (bestTest (bestSize t) now f)
+unfoldable pub sendingTest : Contents → List ℕ → ℕ → Frame → ℕ → Bool
+sendingTest t limits now f left =
+    (leb 1 left && leb left (f .size)) && cond (inUse t (f .source)) (frameTest (rowAt t (f .source) .class) t limits now f) (bestTest (bestSize t) now f)

@@ -1,17 +1,16 @@
 // The tests of a record's frames, of any content: frames that wait in a queue, and the frame on the wire.
 ghost use mathlib.Core.Path.{_≡_};
 ghost use Rattle.table.specs.Rows.{contents};
-ghost use Rattle.machine.specs.State.{instantOf, instantsOf, waiting};
-ghost use Rattle.machine.specs.Record.{allOf, isAt, onSending};
+ghost use Rattle.machine.specs.State.{waiting};
+ghost use Rattle.machine.specs.Record.{allOf, onSending};
 ghost use Rattle.frames.specs.Tests.{rowTest, frameTest, bestTest, sendingTest};
 use machine::BEST_MARK;
 use machine::BEST_PLACES;
 use machine::BestQueue;
-use machine::CLASS_PLACES;
 use machine::Frame;
-use machine::Last;
 use machine::Queue;
 use machine::Wire;
+use table::CLASS_PLACES;
 use table::Class;
 use table::ROWS;
 use table::Row;
@@ -21,18 +20,8 @@ use table::wire::LEAST_SIZE;
 use table::wire::size;
 use table::wire::wire_size;
 
-// A row's last instant is this one.
-fn is_at(taken: u64, l: Last) -> bool
-    ensures { λ r. ⌜ r ≡ isAt taken (instantOf l) ⌝ }
-{
-    if l.known {
-        return l.taken == taken;
-    }
-    false
-}
-
-fn row_frame_ok(class: Class, f: Frame, row: Row, l: Last, limit: u64, clock: u64) -> bool
-    ensures { λ r. ⌜ r ≡ rowTest class f row (instantOf l) limit clock ⌝ }
+fn row_frame_ok(class: Class, f: Frame, row: Row, limit: u64, clock: u64) -> bool
+    ensures { λ r. ⌜ r ≡ rowTest class f row limit clock ⌝ }
 {
     let of = row.class;
     if !same_class(class, of) {
@@ -45,9 +34,6 @@ fn row_frame_ok(class: Class, f: Frame, row: Row, l: Last, limit: u64, clock: u6
         return false;
     }
     if clock < f.taken {
-        return false;
-    }
-    if !is_at(f.taken, l) {
         return false;
     }
     clock - f.taken < limit
@@ -69,15 +55,8 @@ fn best_frame_ok(f: Frame, most: u64, clock: u64) -> bool
 }
 
 // The frame on the wire, where it is a row's.
-fn frame_ok(
-    class: Class,
-    f: Frame,
-    t: Table,
-    limits: [u64; ROWS],
-    last: [Last; ROWS],
-    clock: u64,
-) -> bool
-    ensures { λ r. ⌜ r ≡ frameTest class (contents t) limits (instantsOf (t .count) last) clock f ⌝ }
+fn frame_ok(class: Class, f: Frame, t: Table, limits: [u64; ROWS], clock: u64) -> bool
+    ensures { λ r. ⌜ r ≡ frameTest class (contents t) limits clock f ⌝ }
 {
     let k = f.source as usize;
     if t.count <= k {
@@ -87,21 +66,13 @@ fn frame_ok(
         return false;
     }
     let row = t.rows[k];
-    let l = last[k];
     let limit = limits[k];
-    row_frame_ok(class, f, row, l, limit, clock)
+    row_frame_ok(class, f, row, limit, clock)
 }
 
 // All frames that wait in a class's queue. (`frame_ok` for each would copy the table each time.)
-pub fn queue_ok(
-    class: Class,
-    q: Queue,
-    t: Table,
-    limits: [u64; ROWS],
-    last: [Last; ROWS],
-    clock: u64,
-) -> bool
-    ensures { λ r. ⌜ r ≡ allOf (frameTest class (contents t) limits (instantsOf (t .count) last) clock) (waiting (q .count) (q .frames)) ⌝ }
+pub fn queue_ok(class: Class, q: Queue, t: Table, limits: [u64; ROWS], clock: u64) -> bool
+    ensures { λ r. ⌜ r ≡ allOf (frameTest class (contents t) limits clock) (waiting (q .count) (q .frames)) ⌝ }
 {
     let n = q.count;
     if CLASS_PLACES < n {
@@ -118,9 +89,8 @@ pub fn queue_ok(
             return false;
         }
         let row = t.rows[k];
-        let l = last[k];
         let limit = limits[k];
-        if !row_frame_ok(class, f, row, l, limit, clock) {
+        if !row_frame_ok(class, f, row, limit, clock) {
             return false;
         }
         i += 1;
@@ -148,15 +118,8 @@ pub fn best_ok(q: BestQueue, most: u64, clock: u64) -> bool
 }
 
 // The frame on the wire: a row's is judged by its row's class.
-fn sending_ok(
-    f: Frame,
-    left: u32,
-    t: Table,
-    limits: [u64; ROWS],
-    last: [Last; ROWS],
-    clock: u64,
-) -> bool
-    ensures { λ r. ⌜ r ≡ sendingTest (contents t) limits (instantsOf (t .count) last) clock f left ⌝ }
+fn sending_ok(f: Frame, left: u32, t: Table, limits: [u64; ROWS], clock: u64) -> bool
+    ensures { λ r. ⌜ r ≡ sendingTest (contents t) limits clock f left ⌝ }
 {
     if left < 1 {
         return false;
@@ -171,17 +134,17 @@ fn sending_ok(
         }
         let row = t.rows[k];
         let of = row.class;
-        return frame_ok(of, f, t, limits, last, clock);
+        return frame_ok(of, f, t, limits, clock);
     }
     best_frame_ok(f, wire_size(t.header.payload), clock)
 }
 
 // What is on the wire.
-pub fn wire_ok(w: Wire, t: Table, limits: [u64; ROWS], last: [Last; ROWS], clock: u64) -> bool
-    ensures { λ r. ⌜ r ≡ onSending (sendingTest (contents t) limits (instantsOf (t .count) last) clock) w ⌝ }
+pub fn wire_ok(w: Wire, t: Table, limits: [u64; ROWS], clock: u64) -> bool
+    ensures { λ r. ⌜ r ≡ onSending (sendingTest (contents t) limits clock) w ⌝ }
 {
     match w {
         Wire::Free => true,
-        Wire::Sending(f, left) => sending_ok(f, left, t, limits, last, clock),
+        Wire::Sending(f, left) => sending_ok(f, left, t, limits, clock),
     }
 }

@@ -1,16 +1,17 @@
 -- A byte passes: steps 2, 3 and 4 keep the invariant, and a row's frame that is reported is so within its bound.
 use Prim.Native.Nat.{ℕ, zero, suc, _+_, _-_, _*_, _≤_, _<_}
 use mathlib.Core.Bool.{Bool, true, false, cond}
-use mathlib.Core.List.{List, [], _∷_}
+use mathlib.Core.List.{List, [], _∷_, _++_}
 use mathlib.Core.Path.{_≡_, refl, subst}
-use native.Mathlib.Nat.{le-trans}
 use native.Mathlib.Omega.{arith}
 use lib.IntN.{ℤ}
 use lib.Dec.{eqb}
+use lib.ListN.{getD}
 use borrow.Author.Tests.{eqb-true}
 use Rattle.table.specs.declared.Class.{Class}
 use Rattle.table.specs.declared.Class.the-variants.{A, B}
 use Rattle.table.specs.Limits.{D, leftAtReport}
+use Rattle.table.specs.Wire.{periodOf}
 use Rattle.table.specs.Rows.{Contents, rowAt, InUse}
 use Rattle.planner.specs.Sums.{total, idle, send, bestSize}
 use Rattle.planner.specs.Bound.{blocking, residence, bound}
@@ -23,13 +24,14 @@ use Rattle.machine.specs.declared.Ended.the-variants.{Reported, Nothing}
 use Rattle.machine.specs.Limits.{lastClock}
 use Rattle.machine.specs.State.{Instant, never, at, State, credit, queue}
 use Rattle.machine.specs.Time.{Owner, shaped, unshaped, owner, owns, onWire, earned, earn, pass, settled, settle, wireAfter, reportedIn}
-use Rattle.machine.specs.Record.{sending, held}
+use Rattle.machine.specs.Record.{takenIn}
 use Rattle.machine.proofs.Tokens.{tokens, tokens-most, tokens-rise}
-use Rattle.machine.proofs.OneClass.{All, Ground, Kept, Shift, Sends, Sending-of, Due, pays, earns, byte-grounds}
+use Rattle.machine.proofs.OneClass.{Look, mine, other, next, All, Ground, Kept, Shift, Sends, Sending-of, Due, pays, earns, byte-grounds}
 use Rattle.machine.proofs.OneClass as one
+use Rattle.machine.proofs.Chain.{Chain, oldest-gone}
 use Rattle.machine.proofs.Both.{ShiftA, ShiftB}
 use Rattle.machine.proofs.Both as both
-use Rattle.machine.proofs.Invariant.{lookBy, look, lineBy, line, RowFrame, BestFrame, WireFrame, OnTheWire, LatestOn, NoneAfter, terms, GroundOf, KeptOf, Always, Timed, Inv, Holds, each, named-owner, look-is, look-next, line-next, room}
+use Rattle.machine.proofs.Invariant.{lookBy, look, lineBy, line, RowFrame, BestFrame, WireFrame, OnTheWire, ownFrames, classFrames, NoneAfter, terms, GroundOf, KeptOf, Always, Timed, Inv, Holds, each, named-owner, look-is, look-next, line-next, room}
 use Rattle.machine.proofs.Start.{Started}
 
 module _ (t : Contents) (ok : IsAccepted t) where
@@ -93,17 +95,12 @@ wire-later t now (Sending f (suc (suc l))) p = go (owner t f) p
     go (shaped c) r = r
     go unshaped r = (record { mark = r .0 .mark; least = r .0 .least; most = r .0 .most; past = omega (arith, r .0 .past) }, omega arith, omega (arith, r .2))
 
-latest-later : (t : Contents) (last : List Instant) (w : Wire) → LatestOn t last w → LatestOn t last (wireAfter w)
-latest-later t last Free p = tt
-latest-later t last (Sending f zero) p = tt
-latest-later t last (Sending f (suc zero)) p = tt
-latest-later t last (Sending f (suc (suc l))) p = p
-
-fewer : (k : ℕ) (w : Wire) → sending k (wireAfter w) ≤ sending k w
-fewer k Free = omega arith
-fewer k (Sending f zero) = omega arith
-fewer k (Sending f (suc zero)) = omega arith
-fewer k (Sending f (suc (suc l))) = omega arith
+-- the frame on the wire, a row's oldest, stays or is gone
+chain-later : (p : ℕ) (i : Instant) (k : ℕ) (x : Look) (q : List Frame) → Chain p (takenIn k (ownFrames x ++ q)) i → Chain p (takenIn k (ownFrames (next x) ++ q)) i
+chain-later p i k (mine f zero) q h = oldest-gone p i k f q h
+chain-later p i k (mine f (suc zero)) q h = oldest-gone p i k f q h
+chain-later p i k (mine f (suc (suc l))) q h = h
+chain-later p i k other q h = h
 
 -- ---- steps 2, 3 and 4
 module _ (s : State) (u : Class → ℕ) (st : Started s u) where
@@ -116,6 +113,10 @@ module _ (s : State) (u : Class → ℕ) (st : Started s u) where
   abbrev v : Class → ℕ
   v c = moved c .room
 
+  class-chain : (c : Class) (k : ℕ) → Chain (periodOf (rowAt (s .table) k)) (takenIn k (classFrames c s)) (getD (s .last) k never) → Chain (periodOf (rowAt (s .table) k)) (takenIn k (classFrames c passed)) (getD (s .last) k never)
+  class-chain A k h = rw (← look-next A (s .table) (s .wire)) (chain-later (periodOf (rowAt (s .table) k)) (getD (s .last) k never) k (look A (s .table) (s .wire)) (s .a) h)
+  class-chain B k h = rw (← look-next B (s .table) (s .wire)) (chain-later (periodOf (rowAt (s .table) k)) (getD (s .last) k never) k (look B (s .table) (s .wire)) (s .b) h)
+
   byte-always : s .clock < lastClock → Always passed v
   byte-always h =
       let p = st .inv .always in
@@ -125,6 +126,7 @@ module _ (s : State) (u : Class → ℕ) (st : Started s u) where
         ground = each (λ c. GroundOf c passed (v c)) (moved A .ground) (moved B .ground);
         frames = record { rows = each (λ c. All (RowFrame c (s .table)) (queue c passed)) (p .frames .rows A) (p .frames .rows B); best = best-later (s .table) (s .clock) (s .best) (p .frames .best); few = p .frames .few; wire = wire-later (s .table) (s .clock) (s .wire) (p .frames .wire) };
         instants = record { lasts = p .instants .lasts; none-after = later (s .clock) (s .last) (p .instants .none-after) };
+        chain = λ k g. class-chain (rowAt (s .table) k .class) k (p .chain k g);
       }
 
   class-kept : (c : Class) → Kept (terms c (s .table)) (suc (s .clock)) (tokens c (suc (s .clock)) (s .table .rows) (s .last)) (queue c s) (look c (s .table) (wireAfter (s .wire))) (v c)
@@ -134,17 +136,9 @@ module _ (s : State) (u : Class → ℕ) (st : Started s u) where
       (one.byte-passes (terms c (s .table)) (law.idle-send (s .table) ok c) (s .clock) _ _ (tokens-up (s .table) ok c (s .clock) (s .last)) (tokens-full (s .table) ok c (suc (s .clock)) (s .last)) (credit c s) (queue c s) (look c (s .table) (s .wire)) (u c) (v c) (st .inv .always .ground c) (moved c .shift) (st .inv .timed .kept c))
 
   byte-timed : Timed passed v
-  unfolding held
   byte-timed =
       let ok = st .inv .always .accepted in
-      let p = st .inv .timed .rows in
       record {
-        rows =
-            record {
-              few = λ k g. le-trans (omega (arith, fewer k (s .wire))) (p .few k g);
-              latest = each (λ c. All _ (queue c passed)) (p .latest A) (p .latest B);
-              latest-wire = latest-later (s .table) (s .last) (s .wire) (p .latest-wire);
-            };
         kept = each (λ c. KeptOf c passed (v c)) (class-kept A) (class-kept B);
         ceilings =
             rw (← line-next (s .table) (s .wire))

@@ -13,7 +13,7 @@ use Rattle.planner.specs.Sums.{bestSize}
 use Rattle.machine.specs.declared.Frame.{Frame}
 use Rattle.machine.specs.State.{State}
 use Rattle.machine.specs.Time.{unshaped, owner}
-use Rattle.machine.specs.Record.{allOf, onSending, namesRow, isBest, rowIn, sizeWithin, rowSize, sizeBy, takenBy, upTo, allTrue, tableSound, clockSound, creditSound, bestSound, namesSound, queuesSound, sizesSound, leftSound, framesTaken, rowsTaken, heldSound, latestSound, ageSound, sound}
+use Rattle.machine.specs.Record.{allOf, onSending, namesRow, isBest, rowIn, sizeWithin, rowSize, sizeBy, takenBy, upTo, allTrue, tableSound, clockSound, creditSound, bestSound, namesSound, queuesSound, sizesSound, leftSound, framesTaken, rowsTaken, heldSound, apartSound, latestSound, ageSound, sound}
 use Rattle.machine.proofs.OneClass.{All}
 
 -- ---- facts from tests
@@ -82,13 +82,14 @@ pub record Clauses (s : State) : Type 0 where
   pub frames : framesTaken s ≡ true
   pub rows : rowsTaken s ≡ true
   pub held : heldSound s ≡ true
+  pub apart : apartSound s ≡ true
   pub latest : latestSound s ≡ true
   pub age : ageSound s ≡ true
 
 pub clauses : (s : State) → sound s ≡ true → Clauses s
 unfolding sound
 clauses s e =
-    let c = each-true (tableSound s ∷ clockSound s ∷ creditSound A s ∷ creditSound B s ∷ bestSound s ∷ namesSound s ∷ queuesSound s ∷ sizesSound s ∷ leftSound s ∷ framesTaken s ∷ rowsTaken s ∷ heldSound s ∷ latestSound s ∷ ageSound s ∷ []) e in
+    let c = each-true (tableSound s ∷ clockSound s ∷ creditSound A s ∷ creditSound B s ∷ bestSound s ∷ namesSound s ∷ queuesSound s ∷ sizesSound s ∷ leftSound s ∷ framesTaken s ∷ rowsTaken s ∷ heldSound s ∷ apartSound s ∷ latestSound s ∷ ageSound s ∷ []) e in
     record {
       table = c .0;
       clock = c .1 .0;
@@ -102,8 +103,9 @@ clauses s e =
       frames = c .1 .1 .1 .1 .1 .1 .1 .1 .1 .0;
       rows = c .1 .1 .1 .1 .1 .1 .1 .1 .1 .1 .0;
       held = c .1 .1 .1 .1 .1 .1 .1 .1 .1 .1 .1 .0;
-      latest = c .1 .1 .1 .1 .1 .1 .1 .1 .1 .1 .1 .1 .0;
-      age = c .1 .1 .1 .1 .1 .1 .1 .1 .1 .1 .1 .1 .1 .0;
+      apart = c .1 .1 .1 .1 .1 .1 .1 .1 .1 .1 .1 .1 .0;
+      latest = c .1 .1 .1 .1 .1 .1 .1 .1 .1 .1 .1 .1 .1 .0;
+      age = c .1 .1 .1 .1 .1 .1 .1 .1 .1 .1 .1 .1 .1 .1 .0;
     }
 
 -- a frame that names no row is of no class
@@ -117,9 +119,9 @@ module _ (s : State) (c : Clauses s) where
   unfolding namesSound
   names-parts = three-true _ _ _ (c .names)
 
-  pub best-marked : allOf isBest (s .best) ≡ true
+  pub queue-parts : (allOf (rowIn A (s .table)) (s .a) ≡ true) × (allOf (rowIn B (s .table)) (s .b) ≡ true) × (allOf isBest (s .best) ≡ true)
   unfolding queuesSound
-  best-marked = three-true (allOf (rowIn A (s .table)) (s .a)) (allOf (rowIn B (s .table)) (s .b)) _ (c .queues) .2
+  queue-parts = three-true _ _ _ (c .queues)
 
   pub sizes-parts : (allOf (rowSize (s .table)) (s .a) ≡ true) × (allOf (rowSize (s .table)) (s .b) ≡ true) × (allOf (sizeWithin (bestSize (s .table))) (s .best) ≡ true) × (onSending (λ f left. sizeBy (owner (s .table) f) (s .table) f) (s .wire) ≡ true)
   unfolding sizesSound

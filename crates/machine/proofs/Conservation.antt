@@ -17,7 +17,7 @@ use Rattle.machine.specs.declared.Ended.{Ended}
 use Rattle.machine.specs.declared.Ended.the-variants.{Reported, Nothing}
 use Rattle.machine.specs.State.{State}
 use Rattle.machine.specs.Time.{ready, headOut, behindHead, sendOf, sendBest, startOn, start, wireAfter, reportedIn, byteTime, endsIn, Progress, further, progress}
-use Rattle.machine.specs.Record.{count}
+use Rattle.machine.specs.Run.{count}
 use Rattle.machine.proofs.OneClass.{All}
 use Rattle.machine.proofs.EachFrame.{EachFrame, progress-each}
 use Rattle.machine.specs.Calls.{rowFrame, joined, takeRow, bestFrame, takeBest}

@@ -4,18 +4,20 @@ use mathlib.Core.List.{[]}
 use native.Mathlib.Nat.{le-refl}
 use native.Mathlib.Omega.{arith}
 use lib.IntN.{pos}
-use lib.ListN.{length, replicate, length-replicate}
+use lib.ListN.{length, getD, replicate, length-replicate}
 use Rattle.table.specs.declared.Class.{Class}
 use Rattle.table.specs.declared.Class.the-variants.{A, B}
-use Rattle.table.specs.Rows.{Contents}
+use Rattle.table.specs.Wire.{periodOf}
+use Rattle.table.specs.Rows.{Contents, rowAt}
 use Rattle.planner.specs.Sums.{largest, send}
 use Rattle.planner.specs.Opening.{IsAccepted}
 use Rattle.planner.proofs.Laws as law
 use Rattle.machine.specs.State.{never, queue, fresh}
-use Rattle.machine.specs.Record.{held}
+use Rattle.machine.specs.Record.{takenIn}
 use Rattle.machine.proofs.Tokens.{tokens, tokens-most}
 use Rattle.machine.proofs.OneClass.{other, All, Ground, Kept}
-use Rattle.machine.proofs.Invariant.{RowFrame, Latest, NoneAfter, terms, GroundOf, KeptOf, Inv, each}
+use Rattle.machine.proofs.Chain.{Chain}
+use Rattle.machine.proofs.Invariant.{RowFrame, classFrames, NoneAfter, terms, GroundOf, KeptOf, Inv, each}
 
 none-after : (n : ℕ) → NoneAfter 0 (replicate n never)
 none-after zero = tt
@@ -32,8 +34,13 @@ module _ (t : Contents) (ok : IsAccepted t) where
   class-kept : (c : Class) → Kept (terms c t) 0 (tokens c 0 (t .rows) (replicate (length (t .rows)) never)) [] other (rest c)
   class-kept c = record { rest = le-refl _; arrivals = omega (arith, tokens-most c 0 (t .rows) (replicate (length (t .rows)) never), law.total-sum c t); waiting = tt; due = tt }
 
+  no-frames : (k : ℕ) (c : Class) → Chain (periodOf (rowAt t k)) (takenIn k (classFrames c (fresh t))) (getD (fresh t .last) k never)
+  unfolding fresh
+  no-frames k A = tt
+  no-frames k B = tt
+
   pub fresh-kept : Inv (fresh t) rest
-  unfolding fresh held
+  unfolding fresh
   fresh-kept =
       record {
         always =
@@ -43,10 +50,10 @@ module _ (t : Contents) (ok : IsAccepted t) where
               ground = each (λ c. GroundOf c (fresh t) (rest c)) (class-ground A) (class-ground B);
               frames = record { rows = each (λ c. All (RowFrame c t) (queue c (fresh t))) tt tt; best = tt; few = omega arith; wire = tt };
               instants = record { lasts = length-replicate (length (t .rows)) never; none-after = none-after (length (t .rows)) };
+              chain = λ k h. no-frames k (rowAt t k .class);
             };
         timed =
             record {
-              rows = record { few = λ k h. omega arith; latest = each (λ c. All (Latest (fresh t .last)) (queue c (fresh t))) tt tt; latest-wire = tt };
               kept = each (λ c. KeptOf c (fresh t) (rest c)) (class-kept A) (class-kept B);
               ceilings = record { ceiling = omega arith; behind = tt; potential = omega arith; behind-best = tt };
             };

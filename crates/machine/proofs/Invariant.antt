@@ -2,7 +2,7 @@
 -- planner's timing.
 use Prim.Native.Nat.{ℕ, zero, suc, _+_, _-_, _*_, _≤_}
 use mathlib.Core.Bool.{Bool, true, false}
-use mathlib.Core.List.{List, [], _∷_}
+use mathlib.Core.List.{List, [], _∷_, _++_}
 use mathlib.Core.Path.{_≡_, refl}
 use native.Mathlib.Nat.{le-trans, mul-le-mul-left}
 use native.Mathlib.Omega.{arith}
@@ -10,7 +10,7 @@ use lib.ListN.{length, getD}
 use Rattle.table.specs.declared.Class.{Class}
 use Rattle.table.specs.declared.Class.the-variants.{A, B}
 use Rattle.table.specs.Limits.{D, leastSize}
-use Rattle.table.specs.Wire.{sizeOf}
+use Rattle.table.specs.Wire.{sizeOf, periodOf}
 use Rattle.table.specs.Rows.{Contents, rowAt, InUse}
 use Rattle.table.proofs.Laws as table
 use Rattle.planner.specs.Sums.{largest, total, idle, send, bestSize}
@@ -20,12 +20,13 @@ use Rattle.planner.proofs.Laws as law
 use Rattle.machine.specs.declared.Frame.{Frame}
 use Rattle.machine.specs.declared.Wire.{Wire}
 use Rattle.machine.specs.declared.Wire.the-variants.{Free, Sending}
-use Rattle.machine.specs.Limits.{lastClock, bestMark, bestPlaces, mostOf}
+use Rattle.machine.specs.Limits.{lastClock, bestMark, bestPlaces}
 use Rattle.machine.specs.State.{Instant, never, at, State, credit, queue}
 use Rattle.machine.specs.Time.{Owner, shaped, unshaped, owner, owns, onWire, wireAfter}
-use Rattle.machine.specs.Record.{held}
+use Rattle.machine.specs.Record.{takenIn}
 use Rattle.machine.proofs.Tokens.{tokens}
 use Rattle.machine.proofs.OneClass.{Look, mine, other, isMine, next, All, Terms, Ground, Kept}
+use Rattle.machine.proofs.Chain.{Chain}
 use Rattle.machine.proofs.Both.{Line, free, byA, byB, byBest, nextLine, Ceilings, Idle, Room, ceiling-b}
 
 -- ---- the wire as a class sees it, and as both see it
@@ -74,27 +75,25 @@ pub record Frames (s : State) : Type 0 where
   pub wire : OnTheWire (s .table) (s .clock) (s .wire)
 
 -- ---- line 6: a row's frames
--- a frame was taken at its row's last instant
-abbrev pub Latest : List Instant → Frame → Type 0
-Latest last f = getD last (f .source) never ≡ at (f .taken)
+-- a class's frames in the port, oldest first
+abbrev pub ownFrames : Look → List Frame
+ownFrames (mine f l) = f ∷ []
+ownFrames other = []
 
-abbrev pub LatestBy : Owner → List Instant → Frame → Type 0
-LatestBy (shaped c) last f = Latest last f
-LatestBy unshaped last f = Unit {0}
+abbrev pub classFrames : Class → State → List Frame
+classFrames c s = ownFrames (look c (s .table) (s .wire)) ++ queue c s
 
-abbrev pub LatestOn : Contents → List Instant → Wire → Type 0
-LatestOn t last Free = Unit {0}
-LatestOn t last (Sending f l) = LatestBy (owner t f) last f
+-- the instants of a row's frames in the port
+abbrev pub rowInstants : ℕ → State → List ℕ
+rowInstants k s = takenIn k (classFrames (rowAt (s .table) k .class) s)
+
+abbrev pub Chained : State → Type 0
+Chained s = (k : ℕ) → InUse (s .table) k → Chain (periodOf (rowAt (s .table) k)) (rowInstants k s) (getD (s .last) k never)
 
 abbrev pub NoneAfter : ℕ → List Instant → Type 0
 NoneAfter now [] = Unit {0}
 NoneAfter now (never ∷ is) = NoneAfter now is
 NoneAfter now (at k ∷ is) = (k ≤ now) × NoneAfter now is
-
-pub record Rows (s : State) : Type 0 where
-  pub few : (k : ℕ) → InUse (s .table) k → held k s ≤ mostOf (s .table) k
-  pub latest : (c : Class) → All (Latest (s .last)) (queue c s)
-  pub latest-wire : LatestOn (s .table) (s .last) (s .wire)
 
 -- one instant a row, none after the clock
 pub record Instants (s : State) : Type 0 where
@@ -126,10 +125,10 @@ pub record Always (s : State) (u : Class → ℕ) : Type 0 where
   pub ground : (c : Class) → GroundOf c s (u c)
   pub frames : Frames s
   pub instants : Instants s
+  pub chain : Chained s
 
--- what needs the planner's timing: a row has no more frames than it may have since the ones before have left in time
+-- what needs the planner's timing
 pub record Timed (s : State) (u : Class → ℕ) : Type 0 where
-  pub rows : Rows s
   pub kept : (c : Class) → KeptOf c s (u c)
   pub ceilings : Ceiled (s .table) (line (s .table) (s .wire)) u
 

@@ -2,6 +2,8 @@
 mod Credit
 mod Tokens
 mod OneClass
+pub mod Spaced
+mod Chain
 mod Both
 mod Invariant
 mod Start

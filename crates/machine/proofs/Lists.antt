@@ -25,9 +25,8 @@ use Rattle.machine.specs.declared.Ended.{Ended}
 use Rattle.machine.specs.declared.Ended.the-variants.{Reported, Nothing}
 use Rattle.machine.specs.State.{Instant, never, at, State, fresh}
 use Rattle.machine.specs.Time.{Owner, shaped, unshaped, owner, progress}
-use Rattle.machine.specs.Record.{count}
 use Rattle.machine.specs.Calls.{Call, offer, offerBest, advance, Answer, taken, passed, denied, tooSoon, early, rowFrame, takeRow, bestFrame, takeBest}
-use Rattle.machine.specs.Run.{Event, event, clockOf, lastTaken, newest, named, reportedBy, reports}
+use Rattle.machine.specs.Run.{Event, event, clockOf, lastTaken, newest, named, count, reportedBy, reports}
 use Rattle.machine.proofs.OneClass.{All}
 use Rattle.machine.proofs.Invariant.{RowFrame, BestFrame, WireFrame, OnTheWire, Holds}
 use Rattle.machine.proofs.Offers as offers

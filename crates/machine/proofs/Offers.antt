@@ -1,14 +1,14 @@
--- An offer that is taken keeps the invariant: it is not early, so its row has no frame in the port and its token is whole.
+-- An offer that is taken keeps the invariant: it is not early, so its row's token is whole, and its frame comes a period after the row's newest.
 use Prim.Native.Nat.{ℕ, zero, suc, _+_, _-_, _*_, _≤_, _<_}
-use mathlib.Core.Bool.{Bool, true, false}
-use mathlib.Core.List.{List, [], _∷_, _++_}
+use mathlib.Core.Bool.{Bool, true, false, cond, false≢true}
+use mathlib.Core.List.{List, [], _∷_, _++_, append-assoc, append-nil}
 use mathlib.Core.Path.{_≡_, refl, sym, _∙_, subst}
 use native.Mathlib.Nat.{mul-le-mul-left, le-refl}
 use native.Mathlib.Omega.{arith}
 use lib.Dec.{eqb}
 use lib.ListN.{length, getD, set, length-set, length-append}
 use lib.Seq.{getD-set-same, getD-set-other}
-use borrow.Author.Tests.{ltb-false, eqb-true, eqb-false}
+use borrow.Author.Tests.{ltb-false, eqb-true, eqb-false, ne-eqb}
 use Rattle.table.specs.declared.Class.{Class}
 use Rattle.table.specs.declared.Class.the-variants.{A, B}
 use Rattle.table.specs.declared.Row.{Row}
@@ -19,17 +19,14 @@ use Rattle.table.proofs.Laws as table
 use Rattle.planner.specs.Opening.{IsAccepted}
 use Rattle.planner.proofs.Laws as law
 use Rattle.machine.specs.declared.Frame.{Frame}
-use Rattle.machine.specs.declared.Wire.{Wire}
-use Rattle.machine.specs.declared.Wire.the-variants.{Free, Sending}
-use Rattle.machine.specs.Limits.{bestPlaces, mostOf}
+use Rattle.machine.specs.Limits.{bestPlaces}
 use Rattle.machine.specs.State.{Instant, never, at, State, credit, queue, instead}
-use Rattle.machine.specs.Time.{Owner, shaped, unshaped, owner}
-use Rattle.machine.specs.Record.{count, inQueue, sending, held}
+use Rattle.machine.specs.Record.{takenIn}
 use Rattle.machine.specs.Calls.{tooSoon, early, rowFrame, joined, takeRow, bestFrame, takeBest}
 use Rattle.machine.proofs.Tokens.{tokenOf, weigh, tokens, tokens-fall}
 use Rattle.machine.proofs.OneClass.{All, Ground, Kept, offer-grounds, frame-joins}
-use Rattle.machine.proofs.Invariant.{look, RowFrame, BestFrame, Latest, LatestBy, LatestOn, NoneAfter, terms, GroundOf, KeptOf, Inv, each}
-use Rattle.machine.proofs.Age.{youth, none-held}
+use Rattle.machine.proofs.Chain.{Chain, chain-more, taken-append}
+use Rattle.machine.proofs.Invariant.{look, RowFrame, BestFrame, ownFrames, classFrames, rowInstants, Chained, NoneAfter, terms, GroundOf, KeptOf, Inv, each}
 
 -- ---- an offer that is not early finds its row's token whole
 whole-token : (t : Contents) (ok : IsAccepted t) (k now : ℕ) (l : Instant) → InUse t k → tooSoon l now (periodOf (rowAt t k)) ≡ false → tokenOf (rowAt t k) l now ≡ D * sizeOf (rowAt t k)
@@ -42,30 +39,6 @@ whole-token t ok k now (at j) h e =
 all-more : (P : Frame → Type 0) (q : List Frame) (f : Frame) → All P q → P f → All P (q ++ f ∷ [])
 all-more P [] f a p = (p, tt)
 all-more P (g ∷ q) f a p = (a .0, all-more P q f (a .1) p)
-
-queue-more : (j : ℕ) (q : List Frame) (f : Frame) → inQueue j (q ++ f ∷ []) ≡ inQueue j q + count (eqb (f .source) j)
-queue-more j [] f = omega arith
-queue-more j (g ∷ q) f = omega (arith, queue-more j q f)
-
--- ---- frames of other rows keep their rows' instants
-not-counted : (b : Bool) → count b ≡ 0 → b ≡ false
-not-counted true e = absurd (omega arith)
-not-counted false e = refl
-
-frame-stays : (last : List Instant) (k : ℕ) (i : Instant) (f : Frame) → count (eqb (f .source) k) ≡ 0 → Latest last f → Latest (set last k i) f
-frame-stays last k i f z r = getD-set-other last k (f .source) i never (λ e. eqb-false (f .source) k (not-counted (eqb (f .source) k) z) e) ∙ r
-
-frames-stay : (last : List Instant) (k : ℕ) (i : Instant) (q : List Frame) → inQueue k q ≡ 0 → All (Latest last) q → All (Latest (set last k i)) q
-frames-stay last k i [] z r = tt
-frames-stay last k i (f ∷ q) z r = (frame-stays last k i f (omega arith) (r .0), frames-stay last k i q (omega arith) (r .1))
-
-wire-stays : (t : Contents) (last : List Instant) (k : ℕ) (i : Instant) (w : Wire) → sending k w ≡ 0 → LatestOn t last w → LatestOn t (set last k i) w
-wire-stays t last k i Free z r = tt
-wire-stays t last k i (Sending f l) z r = go (owner t f) r
-  where
-    go : (o : Owner) → LatestBy o last f → LatestBy o (set last k i) f
-    go (shaped c) q = frame-stays last k i f z q
-    go unshaped q = q
 
 set-none-after : (now k : ℕ) (is : List Instant) → NoneAfter now is → NoneAfter now (set is k (at now))
 set-none-after now k [] p = tt
@@ -91,15 +64,6 @@ module _ (s : State) (u : Class → ℕ) (i : Inv s u) (k p : ℕ) (h : InUse (s
   falls : (c : Class) → tokens c (s .clock) (s .table .rows) last′ + weigh c (rowAt (s .table) k) (D * sizeOf (rowAt (s .table) k)) ≡ tokens c (s .clock) (s .table .rows) (s .last)
   falls c = tokens-fall c (s .clock) (s .table .rows) (s .last) k (h .below) (i .always .instants .lasts) (whole-token (s .table) (i .always .accepted) k (s .clock) (getD (s .last) k never) h late)
 
-  -- no frame of the row is in the port
-  none : inQueue k (s .a) + inQueue k (s .b) + sending k (s .wire) ≡ 0
-  unfolding held
-  none = none-held s (i .always .accepted) (youth s u i) k h late
-
-  none-in : (c : Class) → inQueue k (queue c s) ≡ 0
-  none-in A = omega (arith, none)
-  none-in B = omega (arith, none)
-
   -- ---- the row's class, and the other
   joins : (c : Class) → rowAt (s .table) k .class ≡ c → Kept (terms c (s .table)) (s .clock) (tokens c (s .clock) (s .table .rows) last′) (queue c s ++ new ∷ []) (look c (s .table) (s .wire)) (u c)
   joins c e =
@@ -113,9 +77,6 @@ module _ (s : State) (u : Class → ℕ) (i : Inv s u) (k p : ℕ) (h : InUse (s
 
   new-frame : (c : Class) → rowAt (s .table) k .class ≡ c → RowFrame c (s .table) new
   new-frame c e = record { names = h; class = e; least = table.frame-least (rowAt (s .table) k) p; most = table.frame-within (rowAt (s .table) k) p pays }
-
-  new-latest : Latest last′ new
-  new-latest = getD-set-same (s .last) k (at (s .clock)) never (rw (i .always .instants .lasts) (h .below))
 
   kept-after : (c d : Class) → rowAt (s .table) k .class ≡ c → Kept (terms d (s .table)) (s .clock) (tokens d (s .clock) (s .table .rows) last′) (instead c d (queue c s ++ new ∷ []) (queue d s)) (look d (s .table) (s .wire)) (u d)
   kept-after A A e = joins A e
@@ -135,21 +96,45 @@ module _ (s : State) (u : Class → ℕ) (i : Inv s u) (k p : ℕ) (h : InUse (s
   all-after P B A n p = p A
   all-after P B B n p = all-more (P B) (s .b) new (p B) n
 
-  -- the row has one frame, and no other row has more than before
-  one-more : (j : ℕ) → InUse (s .table) j → inQueue j (s .a) + inQueue j (s .b) + sending j (s .wire) + count (eqb k j) ≤ mostOf (s .table) j
-  unfolding mostOf held
-  one-more j g = go (eqb k j) refl
-    where
-      go : (b : Bool) → eqb k j ≡ b → inQueue j (s .a) + inQueue j (s .b) + sending j (s .wire) + count b ≤ 1
-      go true e = let z = rw (eqb-true k j e) at none in omega arith
-      go false e = omega (arith, i .timed .rows .few j g)
+  -- a row's frames in the port, with the new one if it is the row's
+  abbrev added : Bool → List ℕ
+  added true = s .clock ∷ []
+  added false = []
 
-  few-after : (c : Class) (j : ℕ) → InUse (s .table) j → inQueue j (instead c A (queue c s ++ new ∷ []) (s .a)) + inQueue j (instead c B (queue c s ++ new ∷ []) (s .b)) + sending j (s .wire) ≤ mostOf (s .table) j
-  few-after A j g = subst (λ (n : ℕ). n ≤ mostOf (s .table) j) (omega (arith, queue-more j (s .a) new)) (one-more j g)
-  few-after B j g = subst (λ (n : ℕ). n ≤ mostOf (s .table) j) (omega (arith, queue-more j (s .b) new)) (one-more j g)
+  taken-new : (j : ℕ) → takenIn j (new ∷ []) ≡ added (eqb k j)
+  taken-new j = go (eqb k j)
+    where
+      go : (b : Bool) → cond b (s .clock ∷ []) [] ≡ added b
+      go true = refl
+      go false = refl
+
+  joins-frames : (c : Class) (j : ℕ) → takenIn j (ownFrames (look c (s .table) (s .wire)) ++ (queue c s ++ new ∷ [])) ≡ takenIn j (classFrames c s) ++ added (eqb k j)
+  joins-frames c j = rw (← append-assoc (ownFrames (look c (s .table) (s .wire))) (queue c s) (new ∷ []), taken-append j (classFrames c s) (new ∷ []), taken-new j) refl
+
+  other-row : (c d : Class) (j : ℕ) → rowAt (s .table) k .class ≡ c → rowAt (s .table) j .class ≡ d → sameClass c d ≡ false → eqb k j ≡ false
+  other-row c d j e g f = ne-eqb k j (λ z. false≢true (sym f ∙ (rw (← e, ← g, z) (table.same-self (rowAt (s .table) j .class)))))
+
+  stays-frames : (c d : Class) (j : ℕ) → rowAt (s .table) k .class ≡ c → rowAt (s .table) j .class ≡ d → sameClass c d ≡ false → takenIn j (classFrames d s) ≡ takenIn j (classFrames d s) ++ added (eqb k j)
+  stays-frames c d j e g f = rw (other-row c d j e g f) (sym (append-nil (takenIn j (classFrames d s))))
+
+  frames-after : (c d : Class) (j : ℕ) → rowAt (s .table) k .class ≡ c → rowAt (s .table) j .class ≡ d → takenIn j (classFrames d (joined c new s)) ≡ takenIn j (classFrames d s) ++ added (eqb k j)
+  frames-after A A j e g = joins-frames A j
+  frames-after A B j e g = stays-frames A B j e g refl
+  frames-after B A j e g = stays-frames B A j e g refl
+  frames-after B B j e g = joins-frames B j
+
+  row-chain : (j : ℕ) → InUse (s .table) j → (b : Bool) → eqb k j ≡ b → Chain (periodOf (rowAt (s .table) j)) (rowInstants j s ++ added b) (getD last′ j never)
+  row-chain j g true e =
+      let is = eqb-true k j e in
+      rw (← is, getD-set-same (s .last) k (at (s .clock)) never (rw (i .always .instants .lasts) (h .below)))
+      (chain-more (periodOf (rowAt (s .table) k)) (getD (s .last) k never) (s .clock) (rowInstants k s) (omega (arith, law.period-least (s .table) (i .always .accepted) k h)) late (i .always .chain k h))
+  row-chain j g false e =
+      rw (append-nil (rowInstants j s), getD-set-other (s .last) k j (at (s .clock)) never (λ z. eqb-false k j e (sym z))) (i .always .chain j g)
+
+  chain-after : (c : Class) → rowAt (s .table) k .class ≡ c → Chained (joined c new s)
+  chain-after c e j g = rw (frames-after c (rowAt (s .table) j .class) j e refl) (row-chain j g (eqb k j) refl)
 
   taken-as : (c : Class) → rowAt (s .table) k .class ≡ c → Inv (joined c new s) u
-  unfolding held
   taken-as c e =
       record {
         always =
@@ -165,22 +150,14 @@ module _ (s : State) (u : Class → ℕ) (i : Inv s u) (k p : ℕ) (h : InUse (s
                     wire = i .always .frames .wire;
                   };
               instants = record { lasts = length-set (s .last) k (at (s .clock)) ∙ i .always .instants .lasts; none-after = set-none-after (s .clock) k (s .last) (i .always .instants .none-after) };
+              chain = chain-after c e;
             };
         timed =
             record {
-              rows =
-                  record {
-                    few = few-after c;
-                    latest = each (λ d. All (Latest last′) (queue d (joined c new s))) (all-after (λ d. Latest last′) c A new-latest kept-instants) (all-after (λ d. Latest last′) c B new-latest kept-instants);
-                    latest-wire = wire-stays (s .table) (s .last) k (at (s .clock)) (s .wire) (omega (arith, none)) (i .timed .rows .latest-wire);
-                  };
               kept = each (λ d. KeptOf d (joined c new s) (u d)) (kept-after c A e) (kept-after c B e);
               ceilings = i .timed .ceilings;
             };
       }
-    where
-      kept-instants : (d : Class) → All (Latest last′) (queue d s)
-      kept-instants d = frames-stay (s .last) k (at (s .clock)) (queue d s) (none-in d) (i .timed .rows .latest d)
 
   pub row-taken : Inv (takeRow k p s) u
   unfolding takeRow
@@ -188,7 +165,7 @@ module _ (s : State) (u : Class → ℕ) (i : Inv s u) (k p : ℕ) (h : InUse (s
 
 -- ---- the offer of best effort
 pub best-taken : (s : State) (u : Class → ℕ) → Inv s u → (p : ℕ) → p ≤ s .table .header .payload → length (s .best) < bestPlaces → Inv (takeBest p s) u
-unfolding takeBest held
+unfolding takeBest
 best-taken s u i p pays place =
     let a = i .always in
     record {
@@ -205,11 +182,15 @@ best-taken s u i p pays place =
                   wire = a .frames .wire;
                 };
             instants = record { lasts = a .instants .lasts; none-after = a .instants .none-after };
+            chain = λ k g. same-chain (rowAt (s .table) k .class) k (a .chain k g);
           };
       timed =
           record {
-            rows = record { few = i .timed .rows .few; latest = each (λ c. All (Latest (s .last)) (queue c (takeBest p s))) (i .timed .rows .latest A) (i .timed .rows .latest B); latest-wire = i .timed .rows .latest-wire };
             kept = each (λ c. KeptOf c (takeBest p s) (u c)) (i .timed .kept A) (i .timed .kept B);
             ceilings = i .timed .ceilings;
           };
     }
+  where
+    same-chain : (c : Class) (k : ℕ) → Chain (periodOf (rowAt (s .table) k)) (takenIn k (classFrames c s)) (getD (s .last) k never) → Chain (periodOf (rowAt (s .table) k)) (takenIn k (classFrames c (takeBest p s))) (getD (s .last) k never)
+    same-chain A k g = g
+    same-chain B k g = g

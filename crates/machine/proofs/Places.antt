@@ -1,5 +1,5 @@
 -- The places of a record, and its view part by part: what the crates above share of the port's types.
-use Prim.Native.Nat.{ℕ, zero, suc, _-_, _≤_, _<_}
+use Prim.Native.Nat.{ℕ, suc, _-_, _≤_, _<_}
 use mathlib.Core.Bool.{Bool, true, false, _&&_}
 use mathlib.Core.List.{List, [], _∷_, _++_, map, append-nil}
 use mathlib.Core.Path.{_≡_, refl, sym, _∙_, ap}
@@ -17,7 +17,7 @@ use Rattle.machine.specs.declared.Queue.{Queue}
 use Rattle.machine.specs.declared.BestQueue.{BestQueue}
 use Rattle.machine.specs.declared.Port.{Port}
 use Rattle.machine.specs.Limits.{classPlaces, bestPlaces}
-use Rattle.machine.specs.State.{Instant, never, noFrame, waiting, instantOf, instantsOf, Places}
+use Rattle.machine.specs.State.{never, noFrame, waiting, instantOf, instantsOf, Places}
 -- the record itself, and what an unused place may hold
 pub use Rattle.machine.specs.State.{zeroFrame, zeroLast, Places}
 -- a byte-time is one on the clock
@@ -82,16 +82,3 @@ instants-few n last h = let e : n - length last ≡ 0 = omega arith in rw (e, ap
 pub instant-at : (last : List Last) (n k : ℕ) → k < n → k < length last → getD (instantsOf n last) k never ≡ instantOf (getD last k zeroLast)
 instant-at last n k h g =
     List·getD-append (map instantOf (take n last)) (replicate (n - length last) never) never k (rw (length-map, length-take) (omega arith)) ∙ List·getD-map instantOf (take n last) k zeroLast ∙ ap instantOf (getD-take n last k zeroLast h)
-
-getD-none : (m k : ℕ) → getD (replicate m never) k never ≡ never
-getD-none zero k = refl
-getD-none (suc m) zero = refl
-getD-none (suc m) (suc k) = getD-none m k
-
-none-behind : (is : List Instant) (m k : ℕ) → length is ≤ k → getD (is ++ replicate m never) k never ≡ never
-none-behind [] m k h = getD-none m k
-none-behind (i ∷ is) m zero h = absurd (omega arith)
-none-behind (i ∷ is) m (suc k) h = none-behind is m k (omega arith)
-
-pub no-instant : (last : List Last) (n k : ℕ) → length last ≤ k → getD (instantsOf n last) k never ≡ never
-no-instant last n k h = none-behind (map instantOf (take n last)) (n - length last) k (rw (length-map, length-take) (omega arith))

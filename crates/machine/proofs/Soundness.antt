@@ -1,32 +1,34 @@
 -- No clause of "broken" holds of a port that keeps the invariant: no call meets 18.
 use Prim.Native.Nat.{ℕ, zero, suc, _+_, _-_, _≤_, _<_}
-use mathlib.Core.Bool.{Bool, true, false, _&&_, _||_}
-use mathlib.Core.List.{List, [], _∷_}
-use mathlib.Core.Path.{_≡_, refl}
+use mathlib.Core.Bool.{Bool, true, false, false≢true, _&&_, _||_}
+use mathlib.Core.List.{List, [], _∷_, _++_, append-nil}
+use mathlib.Core.Path.{_≡_, refl, sym, _∙_, ap}
 use native.Mathlib.Nat.{lt-suc-self, lt-trans}
 use native.Mathlib.Omega.{arith}
 use lib.IntN.{ℤ, pos, negsuc}
-use lib.Dec.{leb, ltb}
+use lib.Dec.{leb, ltb, eqb}
 use lib.ListN.{length, getD}
-use borrow.Author.Tests.{lt-ltb, le-leb, eq-eqb}
+use borrow.Author.Tests.{lt-ltb, le-leb, eq-eqb, eqb-true}
 use Rattle.table.specs.declared.Class.{Class}
 use Rattle.table.specs.declared.Class.the-variants.{A, B}
-use Rattle.table.specs.Rows.{Contents, rowAt}
+use Rattle.table.specs.Wire.{periodOf}
+use Rattle.table.specs.Rows.{Contents, rowAt, sameClass, InUse}
 use Rattle.table.proofs.Laws as table
 use Rattle.planner.specs.Sums.{bestSize}
-use Rattle.planner.specs.Bound.{residence}
+use Rattle.planner.specs.Bound.{residence, mostOf}
 use Rattle.planner.proofs.Laws as law
 use Rattle.machine.specs.declared.Frame.{Frame}
 use Rattle.machine.specs.declared.Wire.{Wire}
 use Rattle.machine.specs.declared.Wire.the-variants.{Free, Sending}
-use Rattle.machine.specs.State.{Instant, never, at, State, credit}
-use Rattle.machine.specs.Time.{Owner, shaped, unshaped, owner}
-use Rattle.machine.specs.Record.{allOf, onSending, between, namesRow, isBest, rowIn, sizeWithin, rowSize, sizeBy, noneAfter, takenBy, upTo, rowOnly, eachRowFrame, isAt, tableSound, clockSound, creditSound, bestSound, namesSound, queuesSound, sizesSound, leftSound, framesTaken, rowsTaken, heldSound, latestSound, ageSound, sound}
+use Rattle.machine.specs.State.{Instant, never, at, State, credit, queue}
+use Rattle.machine.specs.Time.{Owner, shaped, unshaped, owner, owns}
+use Rattle.machine.specs.Record.{allOf, onSending, between, namesRow, isBest, rowIn, sizeWithin, rowSize, sizeBy, noneAfter, takenBy, takenIn, sending, takenOf, upTo, eachRow, spaced, endsAt, rowOnly, tableSound, clockSound, creditSound, bestSound, namesSound, queuesSound, sizesSound, leftSound, framesTaken, rowsTaken, heldSound, apartSound, latestSound, ageSound, sound}
 use Rattle.machine.proofs.Credit.{Headroom}
 use Rattle.machine.proofs.OneClass.{All}
-use Rattle.machine.proofs.Invariant.{line, RowFrame, BestFrame, WireFrame, OnTheWire, NoneAfter, Inv, ceiling}
+use Rattle.machine.proofs.Chain.{chain-spaced, chain-ends, taken-append, taken-none}
+use Rattle.machine.proofs.Invariant.{lookBy, look, line, RowFrame, BestFrame, WireFrame, OnTheWire, ownFrames, rowInstants, NoneAfter, Inv, named-owner, ceiling}
 use Rattle.machine.proofs.Byte.{row-sends}
-use Rattle.machine.proofs.Age.{Young, YoungBy, YoungOn, youth}
+use Rattle.machine.proofs.Age.{Young, YoungBy, YoungOn, queues-young, wire-young, few-frames}
 
 -- ---- tests from facts
 both : {x y : Bool} → x ≡ true → y ≡ true → (x && y) ≡ true
@@ -72,8 +74,29 @@ none-after now [] p = refl
 none-after now (never ∷ is) p = none-after now is p
 none-after now (at k ∷ is) p = rw (le-leb k now (p .0)) (none-after now is (p .1))
 
-is-at : (k : ℕ) (i : Instant) → i ≡ at k → isAt k i ≡ true
-is-at k i e = rw e (eq-eqb k k refl)
+-- ---- the instants of a row's frames, over all frames in the port and over its class's
+wire-same : (t : Contents) (k : ℕ) (w : Wire) → InUse t k → takenIn k (sending w) ≡ takenIn k (ownFrames (look (rowAt t k .class) t w))
+wire-same t k Free h = refl
+wire-same t k (Sending f l) h = go (eqb (f .source) k) refl
+  where
+    none : (b : Bool) → eqb (f .source) k ≡ false → [] ≡ takenIn k (ownFrames (lookBy b f l))
+    none true e = rw e refl
+    none false e = refl
+
+    go : (b : Bool) → eqb (f .source) k ≡ b → takenIn k (f ∷ []) ≡ takenIn k (ownFrames (lookBy (owns (rowAt t k .class) (owner t f)) f l))
+    go true e =
+        let is = eqb-true (f .source) k e in
+        let own : owner t f ≡ shaped (rowAt t k .class) = named-owner t f (rw is h) ∙ ap (λ (j : ℕ). shaped (rowAt t j .class)) is in
+        rw (own, table.same-self (rowAt t k .class)) refl
+    go false e = rw e (none (owns (rowAt t k .class) (owner t f)) e)
+
+-- no frame of another class's queue is the row's
+none-other : (c d : Class) (t : Contents) (k : ℕ) (q : List Frame) → All (RowFrame d t) q → rowAt t k .class ≡ c → sameClass c d ≡ false → takenIn k q ≡ []
+none-other c d t k q p e f = taken-none k q (names q p)
+  where
+    names : (q : List Frame) → All (RowFrame d t) q → All (λ g. g .source ≡ k → ⊥) q
+    names [] p = tt
+    names (g ∷ q) p = ((λ z. false≢true (sym f ∙ rw (← e, ← p .0 .class, z) (table.same-self (rowAt t k .class)))), names q (p .1))
 
 module _ (s : State) (u : Class → ℕ) (i : Inv s u) where
   table-sound : tableSound s ≡ true
@@ -156,32 +179,55 @@ module _ (s : State) (u : Class → ℕ) (i : Inv s u) where
   unfolding rowsTaken
   rows-taken = none-after (s .clock) (s .last) (i .always .instants .none-after)
 
+  by-class : (c : Class) (k : ℕ) → rowAt (s .table) k .class ≡ c → takenIn k (s .a) ++ takenIn k (s .b) ≡ takenIn k (queue c s)
+  by-class A k e = rw (none-other A B (s .table) k (s .b) (i .always .frames .rows B) e refl) (append-nil (takenIn k (s .a)))
+  by-class B k e = rw (none-other B A (s .table) k (s .a) (i .always .frames .rows A) e refl) refl
+
+  taken-is : (k : ℕ) → InUse (s .table) k → takenOf k s ≡ rowInstants k s
+  unfolding takenOf
+  taken-is k h =
+      let c = rowAt (s .table) k .class in
+      rw (
+        taken-append k (sending (s .wire)) (s .a ++ s .b),
+        taken-append k (s .a) (s .b),
+        wire-same (s .table) k (s .wire) h,
+        by-class c k refl,
+        taken-append k (ownFrames (look c (s .table) (s .wire))) (queue c s),
+      )
+      refl
+
+  -- what holds of each row's frames
+  each-row : (ok : ℕ → List ℕ → Bool) → ((k : ℕ) → InUse (s .table) k → ok k (rowInstants k s) ≡ true) → eachRow (λ k. ok k (takenOf k s)) s ≡ true
+  each-row ok each = up-to (length (s .table .rows)) (λ k. ok k (takenOf k s)) (λ k h. rw (taken-is k (record { below = h })) (each k (record { below = h })))
+
   held-sound : heldSound s ≡ true
   unfolding heldSound
-  held-sound = up-to (length (s .table .rows)) _ (λ k h. le-leb _ _ (i .timed .rows .few k (record { below = h })))
+  held-sound = each-row (λ k xs. leb (length xs) (mostOf (s .table) (rowAt (s .table) k))) (λ k h. le-leb _ _ (few-frames s u i k h))
 
-  -- what holds of each young frame
-  each-row-frame : (ok : Frame → Bool) → ((f : Frame) → Young (s .table) (s .clock) (s .last) f → ok f ≡ true) → eachRowFrame ok s ≡ true
-  each-row-frame ok each =
-      let y = youth s u i in
-      both (both (all-pass ok (Young (s .table) (s .clock) (s .last)) each (s .a) (y .queues A)) (all-pass ok (Young (s .table) (s .clock) (s .last)) each (s .b) (y .queues B))) (on (s .wire) (y .wire))
-    where
-      by-owner : (f : Frame) (o : Owner) → YoungBy o (s .table) (s .clock) (s .last) f → rowOnly o (ok f) ≡ true
-      by-owner f (shaped c) y = each f y
-      by-owner f unshaped y = refl
-
-      on : (w : Wire) → YoungOn (s .table) (s .clock) (s .last) w → onSending (λ f left. rowOnly (owner (s .table) f) (ok f)) w ≡ true
-      on Free y = refl
-      on (Sending f l) y = by-owner f (owner (s .table) f) y
+  apart-sound : apartSound s ≡ true
+  unfolding apartSound
+  apart-sound = each-row (λ k xs. spaced (periodOf (rowAt (s .table) k)) xs) (λ k h. chain-spaced _ (getD (s .last) k never) (rowInstants k s) (i .always .chain k h))
 
   latest-sound : latestSound s ≡ true
   unfolding latestSound
-  latest-sound = each-row-frame (λ f. isAt (f .taken) (getD (s .last) (f .source) never)) (λ f y. is-at (f .taken) (getD (s .last) (f .source) never) (y .latest))
+  latest-sound = each-row (λ k xs. endsAt xs (getD (s .last) k never)) (λ k h. chain-ends (periodOf (rowAt (s .table) k)) _ (rowInstants k s) (i .always .chain k h))
+
+  -- each row's frame is young
+  young-waits : (q : List Frame) → All (Young (s .table) (s .clock)) q → allOf (λ f. ltb (s .clock - f .taken) (residence (s .table) (rowAt (s .table) (f .source)))) q ≡ true
+  young-waits q y = all-pass _ (Young (s .table) (s .clock)) (λ f y. lt-ltb _ _ (y .young)) q y
+
+  young-sends : (w : Wire) → YoungOn (s .table) (s .clock) w → onSending (λ f left. rowOnly (owner (s .table) f) (ltb (s .clock - f .taken) (residence (s .table) (rowAt (s .table) (f .source))))) w ≡ true
+  young-sends Free y = refl
+  young-sends (Sending f l) y = by-owner (owner (s .table) f) y
+    where
+      by-owner : (o : Owner) → YoungBy o (s .table) (s .clock) f → rowOnly o (ltb (s .clock - f .taken) (residence (s .table) (rowAt (s .table) (f .source)))) ≡ true
+      by-owner (shaped c) y = lt-ltb _ _ (y .young)
+      by-owner unshaped y = refl
 
   age-sound : ageSound s ≡ true
   unfolding ageSound
-  age-sound = each-row-frame (λ f. ltb (s .clock - f .taken) (residence (s .table) (rowAt (s .table) (f .source)))) (λ f y. lt-ltb _ _ (y .young))
+  age-sound = both (both (young-waits (s .a) (queues-young s u i A)) (young-waits (s .b) (queues-young s u i B))) (young-sends (s .wire) (wire-young s u i))
 
   pub is-sound : sound s ≡ true
   unfolding sound
-  is-sound = rw (table-sound, clock-sound, credit-sound A, credit-sound B, best-sound, names-sound, queues-sound, sizes-sound, left-sound, frames-taken, rows-taken, held-sound, latest-sound, age-sound) refl
+  is-sound = rw (table-sound, clock-sound, credit-sound A, credit-sound B, best-sound, names-sound, queues-sound, sizes-sound, left-sound, frames-taken, rows-taken, held-sound, apart-sound, latest-sound, age-sound) refl

@@ -1,23 +1,37 @@
--- Space: a row has one frame in the port at most, so a class queue never holds more frames than the table has rows, and an offer that is let pass finds a place.
+-- Space: the frames of a class queue are those of the class's rows, and no row has more in the port than it may have. Opening has kept the sum of these within the
+-- queue's places.
 use Prim.Native.Nat.{ℕ, zero, suc, _+_, _≤_, _<_}
-use mathlib.Core.Bool.{Bool, true, false}
+use mathlib.Core.Bool.{Bool, true, false, cond, false≢true}
 use mathlib.Core.List.{List, [], _∷_}
-use mathlib.Core.Path.{_≡_, refl, ap}
+use mathlib.Core.Path.{_≡_, refl, sym, _∙_, ap}
 use native.Mathlib.Nat.{lt-trans, lt-suc-self}
 use native.Mathlib.Omega.{arith}
 use lib.Dec.{eqb}
-use lib.ListN.{length}
+use lib.ListN.{length, getD}
 use borrow.Author.Tests.{ne-eqb, eqb-true, eqb-false}
 use Rattle.table.specs.declared.Class.{Class}
-use Rattle.table.specs.declared.Class.the-variants.{A, B}
-use Rattle.table.specs.Rows.{Contents, InUse}
+use Rattle.table.specs.declared.Row.{Row}
+use Rattle.table.specs.Rows.{noRow, Contents, rowAt, InUse}
+use Rattle.planner.specs.Sums.{inClass, part, sumOver}
+use Rattle.planner.specs.Bound.{mostOf}
 use Rattle.planner.specs.Opening.{IsAccepted}
 use Rattle.planner.proofs.Laws as law
 use Rattle.machine.specs.declared.Frame.{Frame}
-use Rattle.machine.specs.Limits.{classPlaces, mostOf}
-use Rattle.machine.specs.State.{State, queue}
-use Rattle.machine.specs.Record.{count, inQueue, held}
+use Rattle.machine.specs.Limits.{classPlaces}
+use Rattle.machine.specs.Record.{takenIn}
+use Rattle.machine.specs.Run.{count}
 use Rattle.machine.proofs.OneClass.{All}
+
+-- how many frames of a row wait in a queue
+abbrev pub inQueue : ℕ → List Frame → ℕ
+inQueue k q = length (takenIn k q)
+
+pub one-more : (k : ℕ) (f : Frame) (q : List Frame) → inQueue k (f ∷ q) ≡ count (eqb (f .source) k) + inQueue k q
+one-more k f q = go (eqb (f .source) k)
+  where
+    go : (b : Bool) → length (cond b (f .taken ∷ takenIn k q) (takenIn k q)) ≡ count b + length (takenIn k q)
+    go true = omega arith
+    go false = omega arith
 
 -- the frames of a queue, row by row
 tally : ℕ → List Frame → ℕ
@@ -51,7 +65,7 @@ hits-once (suc n) k h = go (eqb k n) refl (hits-once n k)
 tally-more : (n : ℕ) (f : Frame) (q : List Frame) → tally n (f ∷ q) ≡ tally n q + hits n (f .source)
 unfolding tally hits
 tally-more zero f q = refl
-tally-more (suc n) f q = omega (arith, tally-more n f q)
+tally-more (suc n) f q = omega (arith, tally-more n f q, one-more n f q)
 
 tally-none : (n : ℕ) → tally n [] ≡ 0
 unfolding tally
@@ -62,47 +76,48 @@ tally-all : (n : ℕ) (q : List Frame) → All (λ f. f .source < n) q → tally
 tally-all n [] p = tally-none n
 tally-all n (f ∷ q) p = omega (arith, tally-more n f q, hits-once n (f .source) (p .0), tally-all n q (p .1))
 
--- one of each at most
-tally-most : (n : ℕ) (q : List Frame) → ((k : ℕ) → k < n → inQueue k q ≤ 1) → tally n q ≤ n
-unfolding tally
-tally-most zero q one = omega arith
-tally-most (suc n) q one = omega (arith, tally-most n q (λ k h. one k (lt-trans h (lt-suc-self n))), one n (lt-suc-self n))
+-- the numbers of each row, summed
+sumTo : ℕ → (ℕ → ℕ) → ℕ
+sumTo zero g = 0
+sumTo (suc n) g = sumTo n g + g n
 
--- and none of row k
-tally-less : (n k : ℕ) (q : List Frame) → k < n → inQueue k q ≡ 0 → ((j : ℕ) → j < n → inQueue j q ≤ 1) → tally n q < n
-unfolding tally
-tally-less zero k q h z one = absurd (omega arith)
-tally-less (suc n) k q h z one = go (eqb k n) refl (tally-less n k q)
+tally-most : (n : ℕ) (q : List Frame) (g : ℕ → ℕ) → ((k : ℕ) → k < n → inQueue k q ≤ g k) → tally n q ≤ sumTo n g
+unfolding tally sumTo
+tally-most zero q g few = omega arith
+tally-most (suc n) q g few = omega (arith, tally-most n q g (λ k h. few k (lt-trans h (lt-suc-self n))), few n (lt-suc-self n))
+
+sum-front : (n : ℕ) (g : ℕ → ℕ) → sumTo (suc n) g ≡ g 0 + sumTo n (λ k. g (suc k))
+unfolding sumTo
+sum-front zero g = omega arith
+sum-front (suc n) g = omega (arith, sum-front n g)
+
+-- a class's sum, row number by row number
+sum-numbers : (c : Class) (f : Row → ℕ) (rs : List Row) → sumOver c f rs ≡ sumTo (length rs) (λ k. part c f (getD rs k noRow))
+unfolding sumTo
+sum-numbers c f [] = law.sum-none c f
+sum-numbers c f (r ∷ rs) = omega (arith, law.sum-more c f r rs, sum-numbers c f rs, sum-front (length rs) (λ k. part c f (getD (r ∷ rs) k noRow)))
+
+-- a frame of the class's rows
+pub record Member (c : Class) (t : Contents) (f : Frame) : Type 0 where
+  pub names : InUse t (f .source)
+  pub class : inClass c (rowAt t (f .source)) ≡ true
+
+below : (c : Class) (t : Contents) (q : List Frame) → All (Member c t) q → All (λ f. f .source < length (t .rows)) q
+below c t [] p = tt
+below c t (f ∷ q) p = (p .0 .names .below, below c t q (p .1))
+
+-- a row of another class has none in the queue
+none-of : (c : Class) (t : Contents) (k : ℕ) (q : List Frame) → All (Member c t) q → inClass c (rowAt t k) ≡ false → inQueue k q ≡ 0
+none-of c t k [] p e = refl
+none-of c t k (f ∷ q) p e =
+    let miss : count (eqb (f .source) k) ≡ 0 = ap count (ne-eqb (f .source) k (λ z. false≢true (sym e ∙ rw z at (p .0 .class)))) in
+    omega (arith, one-more k f q, none-of c t k q (p .1) e)
+
+-- a queue whose rows keep to their counts
+pub in-places : (c : Class) (t : Contents) → IsAccepted t → (q : List Frame) → All (Member c t) q → ((k : ℕ) → InUse t k → inQueue k q ≤ mostOf t (rowAt t k)) → length q ≤ classPlaces
+in-places c t ok q members few =
+    omega (arith, tally-all (length (t .rows)) q (below c t q members), tally-most (length (t .rows)) q (λ k. part c (mostOf t) (rowAt t k)) (λ k h. keeps k h (inClass c (rowAt t k)) refl), sum-numbers c (mostOf t) (t .rows), law.most-sum c t, law.most-within t ok c)
   where
-    below : (j : ℕ) → j < n → inQueue j q ≤ 1
-    below j g = one j (lt-trans g (lt-suc-self n))
-
-    go : (b : Bool) → eqb k n ≡ b → (k < n → inQueue k q ≡ 0 → ((j : ℕ) → j < n → inQueue j q ≤ 1) → tally n q < n) → tally n q + inQueue n q < suc n
-    go true e rest =
-        let here : inQueue n q ≡ 0 = rw (← eqb-true k n e) z in
-        omega (arith, tally-most n q below)
-    go false e rest = omega (arith, rest (omega (arith, eqb-false k n e)) z below, one n (lt-suc-self n))
-
-queue-most : (n : ℕ) (q : List Frame) → All (λ f. f .source < n) q → ((k : ℕ) → k < n → inQueue k q ≤ 1) → length q ≤ n
-queue-most n q names one = omega (arith, tally-all n q names, tally-most n q one)
-
-queue-less : (n k : ℕ) (q : List Frame) → All (λ f. f .source < n) q → k < n → inQueue k q ≡ 0 → ((j : ℕ) → j < n → inQueue j q ≤ 1) → length q < n
-queue-less n k q names h z one = omega (arith, tally-all n q names, tally-less n k q h z one)
-
-below : (t : Contents) (q : List Frame) → All (λ f. InUse t (f .source)) q → All (λ f. f .source < length (t .rows)) q
-below t [] p = tt
-below t (f ∷ q) p = (p .0 .below, below t q (p .1))
-
--- ---- a port whose rows keep to their counts
-module _ (s : State) (ok : IsAccepted (s .table)) (few : (k : ℕ) → InUse (s .table) k → held k s ≤ mostOf (s .table) k) where
-  one-each : (c : Class) (k : ℕ) → k < length (s .table .rows) → inQueue k (queue c s) ≤ 1
-  unfolding mostOf held
-  one-each A k h = omega (arith, few k (record { below = h }))
-  one-each B k h = omega (arith, few k (record { below = h }))
-
-  -- a class queue has no more frames than places, and one less if some row in use has none there
-  pub in-places : (c : Class) → All (λ f. InUse (s .table) (f .source)) (queue c s) → length (queue c s) ≤ classPlaces
-  in-places c names = omega (arith, law.rows-most (s .table) ok, queue-most (length (s .table .rows)) (queue c s) (below (s .table) (queue c s) names) (one-each c))
-
-  pub place-for : (c : Class) (k : ℕ) → All (λ f. InUse (s .table) (f .source)) (queue c s) → InUse (s .table) k → inQueue k (queue c s) ≡ 0 → length (queue c s) < classPlaces
-  place-for c k names h z = omega (arith, law.rows-most (s .table) ok, queue-less (length (s .table .rows)) k (queue c s) (below (s .table) (queue c s) names) (h .below) z (one-each c))
+    keeps : (k : ℕ) → k < length (t .rows) → (b : Bool) → inClass c (rowAt t k) ≡ b → inQueue k q ≤ cond b (mostOf t (rowAt t k)) 0
+    keeps k h true e = few k (record { below = h })
+    keeps k h false e = omega (arith, none-of c t k q members e)

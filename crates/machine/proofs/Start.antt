@@ -1,16 +1,16 @@
 -- A frame starts, or none: step 1 keeps the invariant, and leaves a free wire only where no class has credit above 0.
-use Prim.Native.Nat.{ℕ, _+_, _*_, _≤_, _<_}
+use Prim.Native.Nat.{ℕ, _+_, _*_, _≤_}
 use mathlib.Core.Bool.{Bool, true, false, cond}
-use mathlib.Core.List.{List, [], _∷_}
-use mathlib.Core.Path.{_≡_, refl, ap, subst, subst⁻¹}
+use mathlib.Core.List.{List, [], _∷_, _++_}
+use mathlib.Core.Path.{_≡_, refl, sym, subst, subst⁻¹}
 use native.Mathlib.Nat.{le-trans}
 use native.Mathlib.Omega.{arith}
 use lib.IntN.{ℤ, pos, negsuc}
-use lib.Dec.{eqb}
-use borrow.Author.Tests.{ne-eqb}
+use lib.ListN.{getD}
 use Rattle.table.specs.declared.Class.{Class}
 use Rattle.table.specs.declared.Class.the-variants.{A, B}
-use Rattle.table.specs.Rows.{Contents, sameClass}
+use Rattle.table.specs.Wire.{periodOf}
+use Rattle.table.specs.Rows.{Contents, rowAt, sameClass}
 use Rattle.planner.specs.Sums.{largest, idle, send, bestSize}
 use Rattle.planner.specs.Bound.{blocking}
 use Rattle.planner.specs.Opening.{IsAccepted}
@@ -18,13 +18,14 @@ use Rattle.planner.proofs.Laws as law
 use Rattle.machine.specs.declared.Frame.{Frame}
 use Rattle.machine.specs.declared.Wire.{Wire}
 use Rattle.machine.specs.declared.Wire.the-variants.{Free, Sending}
-use Rattle.machine.specs.State.{State, credit, queue, instead, withQueue, withBest, withWire}
+use Rattle.machine.specs.State.{never, State, credit, queue, instead, withQueue, withBest, withWire}
 use Rattle.machine.specs.Time.{Owner, shaped, unshaped, owner, ready, headOut, behindHead, sendOf, sendBest, startOn, start}
-use Rattle.machine.specs.Record.{count, inQueue, held}
+use Rattle.machine.specs.Record.{takenIn}
 use Rattle.machine.proofs.Tokens.{tokens}
+use Rattle.machine.proofs.Chain.{Chain}
 use Rattle.machine.proofs.OneClass.{other, mine, All, Ground, Kept, head-grounds, head-goes, head-stays}
 use Rattle.machine.proofs.Both.{free, starts-a, starts-b, starts-best}
-use Rattle.machine.proofs.Invariant.{lookBy, look, line, lineBy, RowFrame, BestFrame, Latest, terms, GroundOf, KeptOf, Ceiled, Idled, Frames, Rows, Inv, each, row-owner, best-owner, row-within, row-costs, row-bounded, room, ceiling}
+use Rattle.machine.proofs.Invariant.{lookBy, look, line, lineBy, RowFrame, BestFrame, ownFrames, classFrames, Chained, terms, GroundOf, KeptOf, Ceiled, Idled, Frames, Inv, each, row-owner, best-owner, row-within, row-costs, row-bounded, room, ceiling}
 
 -- what a start leaves
 pub record Started (s : State) (u : Class → ℕ) : Type 0 where
@@ -60,9 +61,15 @@ module _ (s : State) (u : Class → ℕ) (i : Inv s u) (no-frame : s .wire ≡ F
   stays : (c : Class) → ready (credit c s) (queue c s) ≡ false → u c ≤ send c (s .table) * largest c (s .table)
   stays c r = head-stays (terms c (s .table)) (s .clock) _ (credit c s) (queue c s) (u c) (ground c) (kept c) r
 
-  none-sending : (k : ℕ) → held k s ≡ inQueue k (s .a) + inQueue k (s .b) + 0
-  unfolding held
-  none-sending k = rw no-frame refl
+  -- a class's frames in the port all wait
+  all-wait : (d : Class) → classFrames d s ≡ queue d s
+  all-wait d = rw no-frame refl
+
+  -- who has the wire next, each class has its frames in the same order
+  chain-after : (r : State) → r .table ≡ s .table → r .last ≡ s .last → ((d : Class) → classFrames d r ≡ queue d s) → Chained r
+  chain-after r et el same k h =
+      subst (λ (fs : List Frame). Chain (periodOf (rowAt (r .table) k)) (takenIn k fs) (getD (r .last) k never)) (sym (same (rowAt (r .table) k .class)))
+      (rw (et, el) (rw (all-wait (rowAt (s .table) k .class)) at (i .always .chain k (rw et at h))))
 
   -- ---- the head of class c goes out
   module _ (c : Class) (f : Frame) (q : List Frame) (e : queue c s ≡ f ∷ q) (r : ready (credit c s) (f ∷ q) ≡ true) where
@@ -109,9 +116,11 @@ module _ (s : State) (u : Class → ℕ) (i : Inv s u) (no-frame : s .wire ≡ F
       let b = row B f q e r in
       starts-b (terms A (s .table)) (terms B (s .table)) (blocking A (s .table)) (bestSize (s .table)) (room (s .table) ok) (u A) (u B) ceilings (f .size) (omega (arith, b .least)) (le-trans (row-within (s .table) ok B f b) (law.blocking-a (s .table) ok .1)) (stays A (first refl))
 
-  count-after : (c : Class) (f : Frame) (q : List Frame) (k : ℕ) → queue c s ≡ f ∷ q → inQueue k (instead c A q (s .a)) + inQueue k (instead c B q (s .b)) + count (eqb (f .source) k) ≡ inQueue k (s .a) + inQueue k (s .b) + 0
-  count-after A f q k e = rw e (omega arith)
-  count-after B f q k e = rw e (omega arith)
+  frames-after : (c d : Class) (f : Frame) (q : List Frame) → queue c s ≡ f ∷ q → ownFrames (lookBy (sameClass d c) f (f .size)) ++ instead c d q (queue d s) ≡ queue d s
+  frames-after A A f q e = sym e
+  frames-after A B f q e = refl
+  frames-after B A f q e = refl
+  frames-after B B f q e = sym e
 
   module _ (c : Class) (f : Frame) (q : List Frame) (e : queue c s ≡ f ∷ q) (r : ready (credit c s) (f ∷ q) ≡ true) (first : sameClass c B ≡ true → ready (s .credita) (s .a) ≡ false) where
     own : owner (s .table) f ≡ shaped c
@@ -127,15 +136,8 @@ module _ (s : State) (u : Class → ℕ) (i : Inv s u) (no-frame : s .wire ≡ F
           wire = rw own (row c f q e r);
         }
 
-    sent-rows : Rows (sent c f q e r)
-    unfolding held
-    sent-rows =
-        let p = i .timed .rows in
-        record {
-          few = λ k h. rw (count-after c f q k e, ← none-sending k) (p .few k h);
-          latest = each (λ d. All (Latest (s .last)) (queue d (sent c f q e r))) (all-after (λ d. Latest (s .last)) c A f q e r (p .latest)) (all-after (λ d. Latest (s .last)) c B f q e r (p .latest));
-          latest-wire = rw own ((rw e at (p .latest c)) .0);
-        }
+    sent-chain : Chained (sent c f q e r)
+    sent-chain = chain-after (sent c f q e r) refl refl (each (λ d. classFrames d (sent c f q e r) ≡ queue d s) (rw own (frames-after c A f q e)) (rw own (frames-after c B f q e)))
 
     pub class-starts : Started (sent c f q e r) u
     class-starts =
@@ -149,10 +151,10 @@ module _ (s : State) (u : Class → ℕ) (i : Inv s u) (no-frame : s .wire ≡ F
                       ground = each (λ d. GroundOf d (sent c f q e r) (u d)) (rw own (ground-after c A f q e r)) (rw own (ground-after c B f q e r));
                       frames = sent-frames;
                       instants = record { lasts = i .always .instants .lasts; none-after = i .always .instants .none-after };
+                      chain = sent-chain;
                     };
                 timed =
                     record {
-                      rows = sent-rows;
                       kept = each (λ d. KeptOf d (sent c f q e r) (u d)) (rw own (kept-after c A f q e r)) (rw own (kept-after c B f q e r));
                       ceilings = rw own (line-after c f q e r first);
                     };
@@ -171,9 +173,6 @@ module _ (s : State) (u : Class → ℕ) (i : Inv s u) (no-frame : s .wire ≡ F
     abbrev best-sent : State
     best-sent = withWire (Sending f (f .size)) (withBest q s)
 
-    no-row : (k : ℕ) → k < 32 → count (eqb (f .source) k) ≡ 0
-    no-row k h = ap count (ne-eqb (f .source) k (λ z. omega (arith, frame .mark)))
-
     best-frames : Frames best-sent
     best-frames =
         let p = i .always .frames in
@@ -184,15 +183,8 @@ module _ (s : State) (u : Class → ℕ) (i : Inv s u) (no-frame : s .wire ≡ F
           wire = rw unowned (frame, omega (arith, frame .least), omega arith);
         }
 
-    best-rows : Rows best-sent
-    unfolding held
-    best-rows =
-        let p = i .timed .rows in
-        record {
-          few = λ k h. rw (no-row k (omega (arith, h .below, law.rows-most (s .table) ok)), ← none-sending k) (p .few k h);
-          latest = each (λ d. All (Latest (s .last)) (queue d best-sent)) (p .latest A) (p .latest B);
-          latest-wire = rw unowned tt;
-        }
+    best-chain : Chained best-sent
+    best-chain = chain-after best-sent refl refl (each (λ d. classFrames d best-sent ≡ queue d s) (rw unowned refl) (rw unowned refl))
 
     pub best-starts : Started best-sent u
     best-starts =
@@ -206,10 +198,10 @@ module _ (s : State) (u : Class → ℕ) (i : Inv s u) (no-frame : s .wire ≡ F
                       ground = each (λ d. GroundOf d best-sent (u d)) (rw unowned (ground A)) (rw unowned (ground B));
                       frames = best-frames;
                       instants = record { lasts = i .always .instants .lasts; none-after = i .always .instants .none-after };
+                      chain = best-chain;
                     };
                 timed =
                     record {
-                      rows = best-rows;
                       kept = each (λ d. KeptOf d best-sent (u d)) (rw unowned (kept A)) (rw unowned (kept B));
                       ceilings = rw unowned (starts-best (terms A (s .table)) (terms B (s .table)) (blocking A (s .table)) (bestSize (s .table)) (room (s .table) ok) (u A) (u B) ceilings (f .size) (omega (arith, frame .least)) (le-trans (frame .most) (law.blocking-a (s .table) ok .0)) (frame .most) (stays A ra) (stays B rb));
                     };

@@ -29,14 +29,14 @@ use Rattle.machine.specs.declared.Port.{Port}
 use Rattle.machine.specs.Limits.{lastClock, classPlaces}
 use Rattle.machine.specs.State.{State, queue, view, Placed}
 use Rattle.machine.specs.Time.{progress}
-use Rattle.machine.specs.Record.{count, sound}
+use Rattle.machine.specs.Record.{sound}
 use Rattle.machine.specs.Calls.{Call, offer, offerBest, advance, Answer, taken, passed, denied, tooSoon, after, answer}
-use Rattle.machine.specs.Run.{Event, event, Run, opened, called, clockOf, machine, AsMachine, Happened, now, since, lastTaken, named, reportedBy, Served, EveryRun}
+use Rattle.machine.specs.Run.{Event, event, Run, opened, called, clockOf, machine, AsMachine, Happened, now, since, lastTaken, named, count, reportedBy, Served, EveryRun}
 use Rattle.machine.proofs.OneClass.{All}
-use Rattle.machine.proofs.Invariant.{RowFrame, BestFrame, Inv}
+use Rattle.machine.proofs.Invariant.{BestFrame, Inv}
 use Rattle.machine.proofs.Age.{Soon, queues-soon, wire-soon}
 use Rattle.machine.proofs.Soundness.{is-sound}
-use Rattle.machine.proofs.Space.{in-places}
+use Rattle.machine.proofs.FromSound.{clauses, in-class-places}
 use Rattle.machine.proofs.Advances.{advances}
 use Rattle.machine.proofs.Conservation.{among, onWire, inPort}
 use Rattle.machine.proofs.Trace.{row-taken, best-taken, advanced, refusal, Trace, start, step, any-step, let-pass}
@@ -174,15 +174,9 @@ module _ (t : Contents) (ok : IsAccepted t) where
       }
 
 -- ---- a run is a trace
-named-in : (s : State) (q : List Frame) (c : Class) → All (RowFrame c (s .table)) q → All (λ f. InUse (s .table) (f .source)) q
-named-in s [] c r = tt
-named-in s (f ∷ q) c r = (r .0 .names, named-in s q c (r .1))
-
 -- no more frames of a class wait than its queue has places, and all of a port's parts find theirs
 class-places : {t : Contents} {es : List Event} {s : State} → Along t es s → (c : Class) → length (queue c s) ≤ classPlaces
-class-places {s = s} w c =
-    let i = w .holds .inv in
-    in-places s (i .always .accepted) (i .timed .rows .few) c (named-in s (queue c s) c (i .always .frames .rows c))
+class-places {s = s} w c = in-class-places s (clauses s (is-sound s (w .holds .u) (w .holds .inv))) c
 
 pub along-placed : {t : Contents} {es : List Event} {s : State} → Along t es s → Placed s
 along-placed w =

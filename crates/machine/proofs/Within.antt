@@ -22,7 +22,7 @@ use Rattle.machine.specs.Time.{owner}
 use Rattle.machine.specs.Record.{onSending, namesRow, isBest, sizeWithin, rowSize, sizeBy, takenBy, clockSound, sound}
 use Rattle.machine.specs.Calls.{Call, offer, offerBest, advance, Answer, taken, passed, denied, offerCheck, bestCheck, advanceCheck, answer}
 use Rattle.machine.proofs.Invariant.{named-owner}
-use Rattle.machine.proofs.Clauses.{Passes, each-passes, Clauses, clauses, unnamed, names-parts, best-marked, sizes-parts, taken-parts}
+use Rattle.machine.proofs.Clauses.{Passes, each-passes, Clauses, clauses, unnamed, names-parts, queue-parts, sizes-parts, taken-parts}
 use Rattle.machine.proofs.FromSound.{is-accepted}
 use Rattle.machine.proofs.EachFrame.{OnWire, OfEnded, EachFrame, progress-each}
 use Rattle.machine.proofs.Advances.{passed-most}
@@ -107,7 +107,7 @@ module _ (s : State) (c : Clauses s) where
       record {
         a = each-passes row-tests FrameWithin of-row (s .a) (names .0, (sizes .0, (instants .0, tt)));
         b = each-passes row-tests FrameWithin of-row (s .b) (names .1, (sizes .1, (instants .1, tt)));
-        best = each-passes best-tests FrameWithin of-best (s .best) (best-marked s c, (sizes .2, (instants .2, tt)));
+        best = each-passes best-tests FrameWithin of-best (s .best) (queue-parts s c .2, (sizes .2, (instants .2, tt)));
         wire = of-wire (s .wire) (names .2) (sizes .3) (instants .3);
       }
 

@@ -1,6 +1,7 @@
 -- The limits of a port, each under one name.
 use Prim.Native.Nat.{ℕ}
-use Rattle.table.specs.Rows.{Contents}
+-- The places of a class queue are a rule of tables: 20 keeps a class's frames within them.
+pub use Rattle.table.specs.Limits.{classPlaces}
 
 -- The clock's last value.
 abbrev pub lastClock : ℕ
@@ -18,13 +19,6 @@ bestMark = 32
 abbrev pub noMark : ℕ
 noMark = 33
 
--- The places of a class queue, and of the best-effort queue: at most 16 wait.
-abbrev pub classPlaces : ℕ
-classPlaces = 32
-
+-- The places of the best-effort queue: at most 16 wait.
 abbrev pub bestPlaces : ℕ
 bestPlaces = 16
-
--- How many frames a row may have in the port.
-unfoldable pub mostOf : Contents → ℕ → ℕ
-mostOf t k = 1

@@ -1,23 +1,23 @@
--- When a record is broken: document 01's clauses, each with a name, stated as what a sound record has.
-use Prim.Native.Nat.{ℕ, zero, suc, _+_, _-_, _*_}
-use mathlib.Core.Bool.{Bool, true, false, _&&_, _||_}
-use mathlib.Core.List.{List, [], _∷_}
+-- When a record is broken: the clauses of document 01, as C-12 has them, each with a name, stated as what a sound record has.
+use Prim.Native.Nat.{ℕ, zero, suc, _+_, _-_, _*_, max}
+use mathlib.Core.Bool.{Bool, true, false, cond, _&&_, _||_}
+use mathlib.Core.List.{List, [], _∷_, _++_}
 use lib.IntN.{ℤ, pos, negsuc}
 use lib.Dec.{leb, ltb, eqb}
 use lib.ListN.{length, getD}
 use Rattle.table.specs.declared.Class.{Class}
 use Rattle.table.specs.declared.Class.the-variants.{A, B}
 use Rattle.table.specs.Limits.{leastSize}
-use Rattle.table.specs.Wire.{sizeOf}
+use Rattle.table.specs.Wire.{sizeOf, periodOf}
 use Rattle.table.specs.Rows.{Contents, rowAt, inUse}
 use Rattle.table.specs.Checks.{Outcome, accepted, refused}
 use Rattle.planner.specs.Sums.{inClass, largest, idle, send, bestSize}
-use Rattle.planner.specs.Bound.{blocking, residence}
+use Rattle.planner.specs.Bound.{blocking, residence, mostOf}
 use Rattle.planner.specs.Opening.{opening}
 use Rattle.machine.specs.declared.Frame.{Frame}
 use Rattle.machine.specs.declared.Wire.{Wire}
 use Rattle.machine.specs.declared.Wire.the-variants.{Free, Sending}
-use Rattle.machine.specs.Limits.{lastClock, bestMark, bestPlaces, mostOf}
+use Rattle.machine.specs.Limits.{lastClock, bestMark, bestPlaces}
 use Rattle.machine.specs.State.{Instant, never, at, State, credit}
 use Rattle.machine.specs.Time.{Owner, shaped, unshaped, owner}
 
@@ -111,29 +111,60 @@ noneAfter now (i ∷ is) = notAfter now i && noneAfter now is
 unfoldable pub rowsTaken : State → Bool
 rowsTaken s = noneAfter (s .clock) (s .last)
 
--- How many frames of a row are in the port: waiting, or on the wire.
-abbrev pub count : Bool → ℕ
-count true = 1
-count false = 0
+-- When the frames of a row were taken, of those in a list; and of those in the port, on the wire or waiting.
+abbrev pub takenIn : ℕ → List Frame → List ℕ
+takenIn k [] = []
+takenIn k (f ∷ fs) = cond (eqb (f .source) k) (f .taken ∷ takenIn k fs) (takenIn k fs)
 
-abbrev pub inQueue : ℕ → List Frame → ℕ
-inQueue k [] = 0
-inQueue k (f ∷ fs) = count (eqb (f .source) k) + inQueue k fs
+abbrev pub sending : Wire → List Frame
+sending Free = []
+sending (Sending f left) = f ∷ []
 
-abbrev pub sending : ℕ → Wire → ℕ
-sending k Free = 0
-sending k (Sending f left) = count (eqb (f .source) k)
+unfoldable pub takenOf : ℕ → State → List ℕ
+takenOf k s = takenIn k (sending (s .wire) ++ (s .a ++ s .b))
 
-unfoldable pub held : ℕ → State → ℕ
-held k s = inQueue k (s .a) + inQueue k (s .b) + sending k (s .wire)
-
--- No row has more frames in the port than it may have: two are one too many.
+-- What holds of each row.
 abbrev pub upTo : ℕ → (ℕ → Bool) → Bool
 upTo zero ok = true
 upTo (suc n) ok = upTo n ok && ok n
 
+abbrev pub eachRow : (ℕ → Bool) → State → Bool
+eachRow ok s = upTo (length (s .table .rows)) ok
+
+-- A row has no more frames in the port than its bound divided by its period, rounded up.
 unfoldable pub heldSound : State → Bool
-heldSound s = upTo (length (s .table .rows)) (λ k. leb (held k s) (mostOf (s .table) k))
+heldSound s = eachRow (λ k. leb (length (takenOf k s)) (mostOf (s .table) (rowAt (s .table) k))) s
+
+-- No two of them were taken less than a period apart, in whichever order they stand.
+abbrev pub apart : ℕ → ℕ → ℕ → Bool
+apart period x y = leb period ((x - y) + (y - x))
+
+abbrev pub apartFrom : ℕ → ℕ → List ℕ → Bool
+apartFrom period x [] = true
+apartFrom period x (y ∷ ys) = apart period x y && apartFrom period x ys
+
+abbrev pub spaced : ℕ → List ℕ → Bool
+spaced period [] = true
+spaced period (x ∷ xs) = apartFrom period x xs && spaced period xs
+
+unfoldable pub apartSound : State → Bool
+apartSound s = eachRow (λ k. spaced (periodOf (rowAt (s .table) k)) (takenOf k s)) s
+
+-- The newest of them was taken at the row's last instant.
+abbrev pub isAt : ℕ → Instant → Bool
+isAt k never = false
+isAt k (at j) = eqb j k
+
+abbrev pub newestOf : List ℕ → ℕ
+newestOf [] = 0
+newestOf (x ∷ xs) = max x (newestOf xs)
+
+abbrev pub endsAt : List ℕ → Instant → Bool
+endsAt [] i = true
+endsAt (x ∷ xs) i = isAt (newestOf (x ∷ xs)) i
+
+unfoldable pub latestSound : State → Bool
+latestSound s = eachRow (λ k. endsAt (takenOf k s) (getD (s .last) k never)) s
 
 -- What holds of each row's frame in the port, waiting or on the wire.
 abbrev pub rowOnly : Owner → Bool → Bool
@@ -142,14 +173,6 @@ rowOnly unshaped ok = true
 
 abbrev pub eachRowFrame : (Frame → Bool) → State → Bool
 eachRowFrame ok s = (allOf ok (s .a) && allOf ok (s .b)) && onSending (λ f left. rowOnly (owner (s .table) f) (ok f)) (s .wire)
-
--- A row's frame was taken at the row's last instant.
-abbrev pub isAt : ℕ → Instant → Bool
-isAt k never = false
-isAt k (at j) = eqb j k
-
-unfoldable pub latestSound : State → Bool
-latestSound s = eachRowFrame (λ f. isAt (f .taken) (getD (s .last) (f .source) never)) s
 
 -- A row's frame is younger than its residence, which is as long as its bound.
 unfoldable pub ageSound : State → Bool
@@ -175,6 +198,7 @@ sound s =
     ∷ framesTaken s
     ∷ rowsTaken s
     ∷ heldSound s
+    ∷ apartSound s
     ∷ latestSound s
     ∷ ageSound s
     ∷ [])

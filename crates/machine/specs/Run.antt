@@ -18,7 +18,6 @@ use Rattle.machine.specs.declared.Port.{Port}
 use Rattle.machine.specs.declared.AfterOpening.{AfterOpening}
 use Rattle.machine.specs.Limits.{classPlaces}
 use Rattle.machine.specs.State.{Instant, never, at, State, queue, fresh, view}
-use Rattle.machine.specs.Record.{count}
 use Rattle.machine.specs.Calls.{Call, offer, offerBest, advance, Answer, taken, passed, denied, tooSoon, after, answer, Gives, Opened}
 
 -- A call with the answer that it gave. A list of them has the newest first.
@@ -75,6 +74,10 @@ lastTaken k (event (advance n) a ∷ es) = lastTaken k es
 -- An advance reports a frame if the ended frame in its answer has that frame's row, instant and wire size.
 abbrev pub named : ℕ → ℕ → ℕ → Frame → Bool
 named row instant size f = (eqb (f .source) row && eqb (f .taken) instant) && eqb (f .size) size
+
+abbrev pub count : Bool → ℕ
+count true = 1
+count false = 0
 
 abbrev pub reportedBy : ℕ → ℕ → ℕ → Answer → ℕ
 reportedBy row instant size taken = 0

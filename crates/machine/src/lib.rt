@@ -1,6 +1,7 @@
 // The types of a port: its record, its frames and wire, and the answers of its calls.
 pub mod numbers;
 
+use table::CLASS_PLACES;
 use table::ROWS;
 
 // The clock's last value.
@@ -9,13 +10,8 @@ pub const LAST_CLOCK: u64 = 1_099_511_627_775;
 // The most byte-times of an advance.
 pub const MOST_STEPS: u64 = 65_535;
 
-// The places of a class queue, and of the best-effort queue.
-pub const CLASS_PLACES: usize = 32;
-
+// The places of the best-effort queue.
 pub const BEST_PLACES: usize = 16;
-
-// How many frames a row may have in the port.
-pub const MOST_OF_A_ROW: u8 = 1;
 
 // The best-effort mark of a frame.
 pub const BEST_MARK: u32 = 32;

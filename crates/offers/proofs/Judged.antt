@@ -6,7 +6,6 @@ use mathlib.Core.Path.{_≡_, refl, sym, subst}
 use native.Mathlib.Omega.{arith}
 use borrow.Author.Tests.{lt-ltb, le-ltb, le-leb, lt-leb}
 use lib.ListN.{length, getD}
-use Rattle.table.specs.declared.Class.the-variants.{A, B}
 use Rattle.table.specs.Limits.{mostRows}
 use Rattle.table.specs.Wire.{periodOf}
 use Rattle.table.specs.Rows.{noRow, rowAt, InUse}
@@ -17,7 +16,7 @@ use Rattle.machine.specs.declared.Offer.the-variants.{Taken}
 use Rattle.machine.specs.declared.Port.{Port}
 use Rattle.machine.specs.declared.AfterOffer.{AfterOffer}
 use Rattle.machine.specs.Limits.{classPlaces, bestPlaces}
-use Rattle.machine.specs.State.{Instant, never, State, instantOf, instantsOf, view}
+use Rattle.machine.specs.State.{Instant, never, State, queue, instantOf, instantsOf, view}
 use Rattle.machine.specs.Record.{notAfter, noneAfter, rowsTaken, sound}
 use Rattle.machine.specs.Calls.{Call, offer, offerBest, denied, tooSoon, early, offerCheck, bestCheck, takeRow, takeBest, after, answer, numberOf, offerAnswer, Gives, Became, Offered, OfferedBest}
 use Rattle.machine.proofs.FromSound.{clauses, is-accepted, place-left}
@@ -114,15 +113,9 @@ module _ (p : Port) where
       unfolding view
       early-is = rw (instant-at (p .last) (p .table .count) k h placed, table.row-at (p .table) (places .rows) few-rows k h) refl
 
-      -- an offer that is let pass finds a place in either queue
-      module _ (late : early (view p) k ≡ false) where
-        pub room-a : p .a .count < classPlaces
-        unfolding view
-        room-a = rw (waiting-length (p .a .count) (p .a .frames)) at (place-left (view p) (clauses (view p) ok) k in-use late A)
-
-        pub room-b : p .b .count < classPlaces
-        unfolding view
-        room-b = rw (waiting-length (p .b .count) (p .b .frames)) at (place-left (view p) (clauses (view p) ok) k in-use late B)
+      -- an offer that is let pass finds a place in its class's queue
+      pub room : early (view p) k ≡ false → length (queue (rowAt (view p .table) k .class) (view p)) < classPlaces
+      room late = place-left (view p) (clauses (view p) ok) k in-use late
 
 -- ---- what an offer gives
 refuses : (p : Port) (c : Call) (d : Denial) (r : AfterOffer) → answer (view p) c ≡ denied (numberOf d) 0 → after (view p) c ≡ view p → r ≡ refusal p d → Gives p c (offerAnswer (r .answer)) (r .port)

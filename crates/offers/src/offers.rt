@@ -3,10 +3,12 @@ ghost use mathlib.Core.Path.{_≡_};
 ghost use mathlib.Core.Bool.{true};
 ghost use mathlib.Core.List.{[], _∷_, _++_};
 ghost use Prim.Native.Nat.{_≤_, _<_};
+ghost use lib.ListN.{length};
 ghost use Rattle.table.specs.Wire.{periodOf};
 ghost use Rattle.table.specs.Limits.{mostRows};
+ghost use Rattle.table.specs.Rows.{rowAt};
 ghost use Rattle.machine.specs.Limits.{classPlaces, bestPlaces};
-ghost use Rattle.machine.specs.State.{waiting, view, instantOf};
+ghost use Rattle.machine.specs.State.{queue, waiting, view, instantOf};
 ghost use Rattle.machine.specs.Record.{notAfter};
 ghost use Rattle.machine.specs.Calls.{tooSoon, joined, takeRow, takeBest, Became, Offered, OfferedBest};
 ghost use Rattle.offers.specs.Steps.{refusal};
@@ -63,8 +65,7 @@ fn pushed(q: Queue, f: Frame) -> Queue
 fn row_joined(p: Port, class: Class, f: Frame) -> Port
     requires { ⌜ p .table .count ≤ mostRows ⌝ }
     requires { ⌜ f .source < p .table .count ⌝ }
-    requires { ⌜ p .a .count < classPlaces ⌝ }
-    requires { ⌜ p .b .count < classPlaces ⌝ }
+    requires { ⌜ length (queue class (view p)) < classPlaces ⌝ }
     ensures { λ r. ⌜ Became (joined class f (view p)) p r ⌝ }
 {
     let k = f.source as usize;
@@ -92,8 +93,7 @@ fn row_joined(p: Port, class: Class, f: Frame) -> Port
 fn row_taken(p: Port, k: usize, payload: u16) -> Port
     requires { ⌜ p .table .count ≤ mostRows ⌝ }
     requires { ⌜ k < p .table .count ⌝ }
-    requires { ⌜ p .a .count < classPlaces ⌝ }
-    requires { ⌜ p .b .count < classPlaces ⌝ }
+    requires { ⌜ length (queue (rowAt (view p .table) k .class) (view p)) < classPlaces ⌝ }
     ensures { λ r. ⌜ Became (takeRow k payload (view p)) p r ⌝ }
 {
     let t = p.table;

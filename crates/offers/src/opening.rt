@@ -6,13 +6,13 @@ ghost use Rattle.machine.specs.Calls.{Opened};
 use machine::AfterOpening;
 use machine::BEST_PLACES;
 use machine::BestQueue;
-use machine::CLASS_PLACES;
 use machine::Frame;
 use machine::Last;
 use machine::Port;
 use machine::Queue;
 use machine::Wire;
 use planner::opening;
+use table::CLASS_PLACES;
 use table::ROWS;
 use table::Table;
 

@@ -11,7 +11,7 @@ use Rattle.table.specs.Checks.{accepted}
 use Rattle.table.specs.Ranges.{Every, Ranges}
 use Rattle.table.proofs.Laws.{all-accept, unless-passes, unlessRow-passes, and-true, ranged-if}
 use Rattle.planner.specs.Sums.{idle}
-use Rattle.planner.specs.Opening.{usedOk, slopesOk, sharesOk, timely, openingChecks, opening}
+use Rattle.planner.specs.Opening.{usedOk, slopesOk, sharesOk, timely, roomOk, openingChecks, opening}
 
 pub record Passes (t : Contents) : Type 0 where
   pub ranges : Ranges t
@@ -19,6 +19,8 @@ pub record Passes (t : Contents) : Type 0 where
   pub shares-a : sharesOk A t ≡ true
   pub shares-b : sharesOk B t ≡ true
   pub timely : Every (λ r. timely t r ≡ true) (t .rows)
+  pub room-a : roomOk A t ≡ true
+  pub room-b : roomOk B t ≡ true
 
 pub opening-passes : (t : Contents) → opening t ≡ accepted → Passes t
 unfolding opening
@@ -30,6 +32,8 @@ opening-passes t e =
       shares-a = unless-passes (sharesOk A t) 9 0 (a .1 .1 .0);
       shares-b = unless-passes (sharesOk B t) 9 1 (a .1 .1 .1 .0);
       timely = unlessRow-passes (timely t) (t .rows) 10 (a .1 .1 .1 .1 .0);
+      room-a = unless-passes (roomOk A t) 20 0 (a .1 .1 .1 .1 .1 .0);
+      room-b = unless-passes (roomOk B t) 20 1 (a .1 .1 .1 .1 .1 .1 .0);
     }
 
 pub slope-limits : (t : Contents) → slopesOk t ≡ true → (usedOk A t ≡ true) × (usedOk B t ≡ true) × (idle A t + idle B t ≤ mostSlope)

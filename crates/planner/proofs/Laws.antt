@@ -1,31 +1,36 @@
 -- The laws of an accepted table, stated over the class: all that the crates above may know of how a bound is worked out.
-use Prim.Native.Nat.{ℕ, _+_, _-_, _*_, _/_, _≤_, _<_, max}
+use Prim.Native.Nat.{ℕ, suc, _+_, _-_, _*_, _/_, _≤_, _<_, max}
 use mathlib.Core.Bool.{Bool, true, false, cond, false≢true}
 use mathlib.Core.List.{List, [], _∷_}
 use mathlib.Core.Logic.{_↔_, ⊎-elim}
-use mathlib.Core.Path.{_≡_, refl}
+use mathlib.Core.Path.{_≡_, refl, sym}
 use native.Mathlib.Nat.{mul-add, add-mul, lt-of-mul-lt-mul-left, lt-of-le-of-lt, add-assoc, lt-mul-div-succ, mul-le-mul, max-le, eq-zero-or-pos}
 use native.Mathlib.Omega.{arith}
+use lib.Dec.{leb, ltb}
 use lib.ListN.{length}
-use borrow.Author.Tests.{leb-true, le-leb, eq-eqb, ne-eqb, eqb-true}
+use borrow.Author.Tests.{leb-true, le-leb, lt-leb, ltb-true, ltb-false, eq-eqb, ne-eqb, eqb-true}
 use Rattle.table.specs.declared.Class.{Class}
 use Rattle.table.specs.declared.Class.the-variants.{A, B}
 use Rattle.table.specs.declared.Row.{Row}
-use Rattle.table.specs.Limits.{D, mostRows, mostSlope, mostSize, leastSize, leastPeriod, leftAtReport}
+use Rattle.table.specs.Limits.{D, mostRows, mostSlope, mostSize, leastSize, leastPeriod, classPlaces, leftAtReport}
 use Rattle.table.specs.Wire.{ceilDiv, wireSize, sizeOf, periodOf, shareOf}
 use Rattle.table.specs.Rows.{noRow, Contents, rowAt, InUse}
 use Rattle.table.specs.Checks.{accepted, refused}
 use Rattle.table.specs.Ranges.{Every, InRange}
 use Rattle.table.proofs.Laws as table
 use Rattle.planner.specs.Sums.{inClass, part, sumOver, maxOver, members, largest, total, shares, idle, send, bestSize}
-use Rattle.planner.specs.Bound.{blocking, residenceIn, residence, bound}
-use Rattle.planner.specs.Opening.{usedOk, slopesOk, sharesOk, timely, opening, IsAccepted}
+use Rattle.planner.specs.Bound.{blocking, residenceIn, residence, bound, mostOf, mostIn}
+use Rattle.planner.specs.Opening.{usedOk, slopesOk, sharesOk, timely, roomOk, opening, IsAccepted}
 use Rattle.planner.proofs.Members.{sum-at, max-at}
 use Rattle.planner.proofs.Checks.{opening-passes, slope-limits}
 -- the bound of a row in the list of bounds
 pub use Rattle.planner.proofs.Limits.{bounds-row}
 
 -- ---- sums over a class
+pub sum-none : (c : Class) (f : Row → ℕ) → sumOver c f [] ≡ 0
+unfolding sumOver
+sum-none c f = refl
+
 pub sum-more : (c : Class) (f : Row → ℕ) (r : Row) (rs : List Row) → sumOver c f (r ∷ rs) ≡ part c f r + sumOver c f rs
 unfolding sumOver
 sum-more c f r rs = refl
@@ -38,6 +43,10 @@ total-sum c t = refl
 pub shares-sum : (c : Class) (t : Contents) → shares c t ≡ sumOver c shareOf (t .rows)
 unfolding shares
 shares-sum c t = refl
+
+pub most-sum : (c : Class) (t : Contents) → mostIn c t ≡ sumOver c (mostOf t) (t .rows)
+unfolding mostIn
+most-sum c t = refl
 
 -- the largest of a class is at most what each row is at most
 part-most : (c : Class) (f : Row → ℕ) (m : ℕ) (r : Row) → f r ≤ m → part c f r ≤ m
@@ -75,6 +84,10 @@ fair-at : (c : Class) (t : Contents) → sharesOk c t ≡ true → shares c t �
 unfolding sharesOk
 fair-at c t e = leb-true (shares c t) (idle c t) e
 
+room-at : (c : Class) (t : Contents) → roomOk c t ≡ true → mostIn c t ≤ classPlaces
+unfolding roomOk
+room-at c t e = leb-true (mostIn c t) classPlaces e
+
 pub accepted-if : (t : Contents) → opening t ≡ accepted → IsAccepted t
 accepted-if t e =
     let p = opening-passes t e in
@@ -85,6 +98,7 @@ accepted-if t e =
       slopes = s .2;
       fair = fair-of (p .shares-a) (p .shares-b);
       timely = table.every-map (λ r. timely t r ≡ true) (λ r. bound t r ≤ r .deadline) (timely-at t) (t .rows) (p .timely);
+      room = room-of (p .room-a) (p .room-b);
     }
   where
     used-of : usedOk A t ≡ true → usedOk B t ≡ true → (c : Class) → (idle c t ≡ 0) ↔ (members c t ≡ 0)
@@ -95,6 +109,10 @@ accepted-if t e =
     fair-of a b A = fair-at A t a
     fair-of a b B = fair-at B t b
 
+    room-of : roomOk A t ≡ true → roomOk B t ≡ true → (c : Class) → mostIn c t ≤ classPlaces
+    room-of a b A = room-at A t a
+    room-of a b B = room-at B t b
+
 used-passes : (c : Class) (t : Contents) → (idle c t ≡ 0) ↔ (members c t ≡ 0) → usedOk c t ≡ true
 unfolding usedOk
 used-passes c t e =
@@ -104,7 +122,7 @@ used-passes c t e =
     (eq-zero-or-pos (idle c t))
 
 pub accepted-only-if : (t : Contents) → IsAccepted t → opening t ≡ accepted
-unfolding opening slopesOk sharesOk
+unfolding opening slopesOk sharesOk roomOk
 accepted-only-if t ok =
     rw (
       table.ranged-only-if t (ok .ranges),
@@ -114,6 +132,8 @@ accepted-only-if t ok =
       le-leb (shares A t) (idle A t) (ok .fair A),
       le-leb (shares B t) (idle B t) (ok .fair B),
       table.unlessRow-accepts (timely t) (t .rows) 10 (table.every-map (λ r. bound t r ≤ r .deadline) (λ r. timely t r ≡ true) (at-timely t) (t .rows) (ok .timely)),
+      le-leb (mostIn A t) classPlaces (ok .room A),
+      le-leb (mostIn B t) classPlaces (ok .room B),
     )
     refl
 
@@ -143,6 +163,10 @@ sum-is t k = refl
 pub bound-report : (t : Contents) (r : Row) → bound t r + leftAtReport ≡ residence t r
 unfolding bound residence residenceIn
 bound-report t r = omega (arith, table.size-least r)
+
+pub residence-some : (t : Contents) (r : Row) → 0 < residence t r
+unfolding residence residenceIn
+residence-some t r = omega (arith, table.size-least r)
 
 module _ (t : Contents) (ok : IsAccepted t) where
   pub rows-most : length (t .rows) ≤ mostRows
@@ -179,6 +203,10 @@ module _ (t : Contents) (ok : IsAccepted t) where
 
     pub shares-within : shares c t ≤ idle c t
     shares-within = ok .fair c
+
+    -- the frames that the rows of a class may have in the port
+    pub most-within : mostIn c t ≤ classPlaces
+    most-within = ok .room c
 
     -- L is at most the largest wire size
     pub largest-most : largest c t ≤ mostSize
@@ -240,10 +268,27 @@ module _ (t : Contents) (ok : IsAccepted t) where
     pub period-least : leastPeriod ≤ periodOf (rowAt t k)
     period-least = row-range .shortest
 
-    -- ---- residence and bound
-    pub residence-period : residence t (rowAt t k) ≤ periodOf (rowAt t k)
-    residence-period = omega (arith, bound-report t (rowAt t k), table.every-at (λ r. bound t r ≤ r .deadline) (t .rows) (ok .timely) k (in-use .below), row-range .deadline)
+    -- ---- how many frames of the row may be in the port: more than n if n periods are shorter than its residence
+    pub most-above : (n : ℕ) → n * periodOf (rowAt t k) < residence t (rowAt t k) → n < mostOf t (rowAt t k)
+    unfolding mostOf
+    most-above n h = table.ceil-above (residence t (rowAt t k)) (periodOf (rowAt t k)) n (omega (arith, period-least)) h
 
+    -- as a test: a frame more than n is one too many if n periods are as long
+    pub most-periods : (n : ℕ) → ltb (n * periodOf (rowAt t k)) (residence t (rowAt t k)) ≡ leb (suc n) (mostOf t (rowAt t k))
+    unfolding mostOf
+    most-periods n = go (ltb (n * periodOf (rowAt t k)) (residence t (rowAt t k))) refl
+      where
+        some : 0 < periodOf (rowAt t k)
+        some = omega (arith, period-least)
+
+        one-more : {x : ℕ} → x ≤ n → x < suc n
+        one-more h = omega arith
+
+        go : (b : Bool) → ltb (n * periodOf (rowAt t k)) (residence t (rowAt t k)) ≡ b → b ≡ leb (suc n) (ceilDiv (residence t (rowAt t k)) (periodOf (rowAt t k)))
+        go true e = sym (le-leb (suc n) _ (table.ceil-above (residence t (rowAt t k)) (periodOf (rowAt t k)) n some (ltb-true _ _ e)))
+        go false e = sym (lt-leb (suc n) _ (one-more (table.ceil-most (residence t (rowAt t k)) (periodOf (rowAt t k)) n some (ltb-false _ _ e))))
+
+    -- ---- residence
     -- what waits no longer than its class allows is out of the port within its residence
     pub residence-waits : (age : ℕ) → idle (classAt t k) t * age ≤ idle (classAt t k) t * blocking (classAt t k) t + backlog t k → age + sizeOf (rowAt t k) ≤ residence t (rowAt t k)
     residence-waits age h =

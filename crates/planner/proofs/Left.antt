@@ -1,6 +1,6 @@
 -- A class's figures, row by row: what the loop has, joined with what is left, is the whole.
 use Prim.Native.Nat.{ℕ, _+_, _≤_, _<_, max}
-use mathlib.Core.Path.{_≡_, _∙_}
+use mathlib.Core.Path.{_≡_, sym, _∙_}
 use native.Mathlib.Numerals.{add-one}
 use native.Mathlib.Nat.{add-zero, zero-add, max-zero, zero-max, add-assoc}
 use native.Mathlib.Omega.{arith}
@@ -27,9 +27,13 @@ unfolding members largest total shares
 at-start c t = record { members = zero-add _; largest = zero-max _; total = zero-add _; shares = zero-add _ }
 
 module _ (c : Class) (t : Table) (long : length (t .rows) ≡ 32) (few : t .count ≤ mostRows) (i : ℕ) where
-  sum-turn : (g : Row → ℕ) (a : ℕ) → i < t .count → a + part c g (getD (t .rows) i noRow) + sumOver c g (drop (i + 1) (rowsOf t)) ≡ a + sumOver c g (drop i (rowsOf t))
+  pub sum-turn : (g : Row → ℕ) (a : ℕ) → i < t .count → a + part c g (getD (t .rows) i noRow) + sumOver c g (drop (i + 1) (rowsOf t)) ≡ a + sumOver c g (drop i (rowsOf t))
   unfolding sumOver
   sum-turn g a h = rw (add-one, next-row t long few i h) (add-assoc _ _ _)
+
+  pub sum-end : (g : Row → ℕ) (a : ℕ) → t .count ≤ i → a + sumOver c g (drop i (rowsOf t)) ≡ a
+  unfolding sumOver
+  sum-end g a h = rw (no-row t long few i h) (add-zero a)
 
   max-turn : (g : Row → ℕ) (a : ℕ) → i < t .count → max (max a (part c g (getD (t .rows) i noRow))) (maxOver c g (drop (i + 1) (rowsOf t))) ≡ max a (maxOver c g (drop i (rowsOf t)))
   unfolding maxOver
@@ -45,11 +49,11 @@ module _ (c : Class) (t : Table) (long : length (t .rows) ≡ 32) (few : t .coun
       }
 
   pub at-end : (f : Figures) → t .count ≤ i → Remaining c t i f → f ≡ figuresOf c (contents t)
-  unfolding sumOver maxOver
+  unfolding maxOver
   at-end f h r =
       let nothing-left = no-row t long few i h in
-      let m = rw (nothing-left, add-zero) at (r .members) in
+      let m = sym (sum-end (λ x. 1) (f .members) h) ∙ r .members in
       let l = rw (nothing-left, max-zero) at (r .largest) in
-      let s = rw (nothing-left, add-zero) at (r .total) in
-      let q = rw (nothing-left, add-zero) at (r .shares) in
+      let s = sym (sum-end sizeOf (f .total) h) ∙ r .total in
+      let q = sym (sum-end shareOf (f .shares) h) ∙ r .shares in
       λ k. record { members = m k; largest = l k; total = s k; shares = q k }

@@ -4,6 +4,7 @@ mod Members
 mod Fill
 mod Limits
 mod Worked
+mod Crowd
 mod Checks
 mod Verdicts
 pub mod Laws

@@ -14,7 +14,7 @@ use Rattle.table.specs.Ranges.{ranged}
 use Rattle.planner.specs.declared.Lane.{Lane}
 use Rattle.planner.specs.declared.Plan.{Plan}
 use Rattle.planner.specs.Bound.{bounds}
-use Rattle.planner.specs.Opening.{slopesOk, sharesOk, timely, opening}
+use Rattle.planner.specs.Opening.{slopesOk, sharesOk, timely, roomOk, opening}
 use Rattle.planner.specs.Plan.{laneOf, Planned}
 use Rattle.planner.specs.Steps.{refusedPlan, Passed}
 
@@ -46,6 +46,15 @@ module _ (t : Contents) where
     unfolding opening
     by-deadline h = rw (p .ranged, p .slopes, p .shares-a, p .shares-b, ← e, lt-leb _ _ h) refl
 
-    pub by-none : length (t .rows) ≤ k → opening t ≡ accepted
-    unfolding opening
-    by-none h = rw (p .ranged, p .slopes, p .shares-a, p .shares-b, ← e, le-leb _ _ h) refl
+    module _ (h : length (t .rows) ≤ k) where
+      pub by-room-a : roomOk A t ≡ false → opening t ≡ refused 20 0
+      unfolding opening
+      by-room-a f = rw (p .ranged, p .slopes, p .shares-a, p .shares-b, ← e, le-leb _ _ h, f) refl
+
+      pub by-room-b : roomOk A t ≡ true → roomOk B t ≡ false → opening t ≡ refused 20 1
+      unfolding opening
+      by-room-b f g = rw (p .ranged, p .slopes, p .shares-a, p .shares-b, ← e, le-leb _ _ h, f, g) refl
+
+      pub by-none : roomOk A t ≡ true → roomOk B t ≡ true → opening t ≡ accepted
+      unfolding opening
+      by-none f g = rw (p .ranged, p .slopes, p .shares-a, p .shares-b, ← e, le-leb _ _ h, f, g) refl

@@ -1,4 +1,4 @@
--- Blocking and bounds.
+-- Blocking and bounds, and how many frames may be in the port.
 use Prim.Native.Nat.{ℕ, _+_, _-_, _*_, _/_, max}
 use mathlib.Core.List.{List, map, _++_}
 use lib.ListN.{length, replicate}
@@ -6,9 +6,9 @@ use Rattle.table.specs.declared.Class.{Class}
 use Rattle.table.specs.declared.Class.the-variants.{A, B}
 use Rattle.table.specs.declared.Row.{Row}
 use Rattle.table.specs.Limits.{D, mostRows, leftAtReport}
-use Rattle.table.specs.Wire.{ceilDiv, sizeOf}
+use Rattle.table.specs.Wire.{ceilDiv, sizeOf, periodOf}
 use Rattle.table.specs.Rows.{Contents}
-use Rattle.planner.specs.Sums.{largest, total, idle, send, bestSize}
+use Rattle.planner.specs.Sums.{sumOver, largest, total, idle, send, bestSize}
 
 -- H. Class A: max(LB, LC). Class B: LA + (max(D × LC, IA × LB) / SA, rounded up), where IA, SA are A's slopes.
 unfoldable pub blocking : Class → Contents → ℕ
@@ -26,6 +26,14 @@ residence t r = residenceIn (r .class) t r
 -- A row's bound, the longest from the instant that its frame is taken to the frame's report: its residence, less the bytes that are left at the report.
 unfoldable pub bound : Contents → Row → ℕ
 bound t r = residence t r - leftAtReport
+
+-- How many frames of a row may be in the port: its residence, which is as long as its bound, divided by its period, rounded up.
+unfoldable pub mostOf : Contents → Row → ℕ
+mostOf t r = ceilDiv (residence t r) (periodOf r)
+
+-- The sum of these over a class.
+unfoldable pub mostIn : Class → Contents → ℕ
+mostIn c t = sumOver c (mostOf t) (t .rows)
 
 -- The 32 bounds of a table, 0 in each place behind the last row.
 unfoldable pub bounds : Contents → List ℕ

@@ -8,12 +8,12 @@ use lib.Dec.{leb, eqb}
 use Rattle.table.specs.declared.Class.{Class}
 use Rattle.table.specs.declared.Class.the-variants.{A, B}
 use Rattle.table.specs.declared.Row.{Row}
-use Rattle.table.specs.Limits.{mostSlope}
+use Rattle.table.specs.Limits.{mostSlope, classPlaces}
 use Rattle.table.specs.Rows.{Contents}
 use Rattle.table.specs.Checks.{Outcome, unless, unlessRow, first}
 use Rattle.table.specs.Ranges.{ranged, Every, Ranges}
 use Rattle.planner.specs.Sums.{members, shares, idle}
-use Rattle.planner.specs.Bound.{bound}
+use Rattle.planner.specs.Bound.{bound, mostIn}
 
 -- Two tests agree.
 abbrev pub sameTest : Bool → Bool → Bool
@@ -35,8 +35,12 @@ sharesOk c t = leb (shares c t) (idle c t)
 unfoldable pub timely : Contents → Row → Bool
 timely t r = leb (bound t r) (r .deadline)
 
+-- Rule 20. The frames that a class's rows may have in the port find their places in its queue.
+unfoldable pub roomOk : Class → Contents → Bool
+roomOk c t = leb (mostIn c t) classPlaces
+
 -- Opening a table (also asking for bounds): 3 and 5, row count and values. 8, the slope rules broken. 9, shares above I, place 0 for A, 1 for B.
--- 10, a bound above its deadline, place the lowest such row.
+-- 10, a bound above its deadline, place the lowest such row. 20, more frames in a class than its queue has places, place 0 for A, 1 for B.
 abbrev pub openingChecks : Contents → List Outcome
 openingChecks t =
     ranged t
@@ -44,16 +48,19 @@ openingChecks t =
     ∷ unless (sharesOk A t) 9 0
     ∷ unless (sharesOk B t) 9 1
     ∷ unlessRow (timely t) (t .rows) 10
+    ∷ unless (roomOk A t) 20 0
+    ∷ unless (roomOk B t) 20 1
     ∷ []
 
 unfoldable pub opening : Contents → Outcome
 opening t = first (openingChecks t)
 
 -- A table is accepted when its values are in range, a class's I is 0 exactly if it has no row, IA + IB ≤ 750,000, the shares of each class sum to at most
--- its I, and each bound is at most its deadline.
+-- its I, each bound is at most its deadline, and the frames that a class's rows may have in the port are at most its queue's places.
 pub record IsAccepted (t : Contents) : Type 0 where
   pub ranges : Ranges t
   pub used : (c : Class) → (idle c t ≡ 0) ↔ (members c t ≡ 0)
   pub slopes : idle A t + idle B t ≤ mostSlope
   pub fair : (c : Class) → shares c t ≤ idle c t
   pub timely : Every (λ r. bound t r ≤ r .deadline) (t .rows)
+  pub room : (c : Class) → mostIn c t ≤ classPlaces

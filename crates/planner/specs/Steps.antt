@@ -3,6 +3,7 @@ use Prim.Native.Nat.{ℕ, _+_, _-_, _*_, _/_, _≤_, max}
 use mathlib.Core.Bool.{Bool, true, _&&_}
 use mathlib.Core.Path.{_≡_}
 use lib.Dec.{leb, eqb}
+use lib.ListN.{length}
 use Rattle.table.specs.declared.Class.{Class}
 use Rattle.table.specs.declared.Class.the-variants.{A, B}
 use Rattle.table.specs.declared.Row.{Row}
@@ -12,13 +13,15 @@ use Rattle.table.specs.declared.Verdict.the-variants.{Refused}
 use Rattle.table.specs.Limits.{D, mostRows, mostSlope, anySize}
 use Rattle.table.specs.Wire.{ceilDiv, wireSize, sizeOf, shareOf}
 use Rattle.table.specs.Rows.{Contents}
-use Rattle.table.specs.Checks.{accepted}
+use Rattle.table.specs.Checks.{accepted, passing}
 use Rattle.table.specs.Ranges.{ranged}
 use Rattle.planner.specs.declared.Figures.{Figures}
 use Rattle.planner.specs.declared.Lane.{Lane}
 use Rattle.planner.specs.declared.Plan.{Plan}
+use Rattle.planner.specs.declared.Judgement.{Judgement}
 use Rattle.planner.specs.Sums.{part, members, largest, total, shares}
-use Rattle.planner.specs.Opening.{sameTest, usedOk, slopesOk, sharesOk}
+use Rattle.planner.specs.Bound.{mostIn}
+use Rattle.planner.specs.Opening.{sameTest, usedOk, slopesOk, sharesOk, timely}
 use Rattle.planner.specs.Plan.{laneOf, noLane, noBounds}
 
 -- A class's figures, in one record.
@@ -85,6 +88,12 @@ pub record Passed (t : Contents) : Type 0 where
   pub slopes : slopesOk t ≡ true
   pub shares-a : sharesOk A t ≡ true
   pub shares-b : sharesOk B t ≡ true
+
+-- How many rows are in time before the first that is not, and what the classes' frames come to if that is all the rows.
+pub record JudgementOf (t : Contents) (r : Judgement) : Type 0 where
+  pub timely : r .timely ≡ passing (timely t) (t .rows)
+  pub a : length (t .rows) ≤ r .timely → r .a ≡ mostIn A t
+  pub b : length (t .rows) ≤ r .timely → r .b ≡ mostIn B t
 
 -- No number of a class is large, whatever its rows hold. (The header check is what limits the idle slope.)
 pub record Modest (l : Lane) : Type 0 where

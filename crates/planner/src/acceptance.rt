@@ -3,27 +3,33 @@ ghost use mathlib.Core.Path.{_≡_};
 ghost use Prim.Native.Nat.{_≤_, _<_};
 ghost use lib.Dec.{eqb};
 ghost use Rattle.table.specs.Limits.{mostRows, mostSlope};
-ghost use Rattle.table.specs.Rows.{rowsOf, contents};
-ghost use Rattle.table.specs.Checks.{passing};
+ghost use Rattle.table.specs.Wire.{ceilDiv, periodOf};
+ghost use Rattle.table.specs.Rows.{contents};
+ghost use Rattle.planner.specs.Sums.{part};
 ghost use Rattle.planner.specs.Bound.{bounds};
-ghost use Rattle.planner.specs.Opening.{sameTest, timely};
+ghost use Rattle.planner.specs.Opening.{sameTest};
 ghost use Rattle.planner.specs.Plan.{Planned};
-ghost use Rattle.planner.specs.Steps.{Small, slopesBy, laneA, laneB, pickLane, boundWith, refusedPlan, Summed, Passed, Modest, Lanes};
+ghost use Rattle.planner.specs.Steps.{Small, slopesBy, laneA, laneB, pickLane, boundWith, refusedPlan, Summed, Passed, Modest, Lanes, JudgementOf};
 use crate::Figures;
+use crate::Judgement;
 use crate::Lane;
 use crate::Plan;
 use crate::sums::figures;
+use table::CLASS_PLACES;
 use table::Class;
 use table::Header;
 use table::ROWS;
 use table::Refusal;
+use table::Row;
 use table::Table;
 use table::Verdict;
+use table::classes::same_class;
 use table::quotient::ceil_div;
 use table::quotient::larger;
 use table::ranges::MOST_SLOPE;
 use table::ranges::ranges;
 use table::wire::D;
+use table::wire::period;
 use table::wire::size;
 use table::wire::wire_size;
 
@@ -125,23 +131,44 @@ fn row_bounds(t: Table, a: Lane, b: Lane) -> [u64; ROWS]
     out
 }
 
-// How many rows have a bound within their deadline before the first that has not.
-fn in_time(t: Table, limits: [u64; ROWS]) -> usize
+// What a row adds to the frames that a class may have in the port: its bound divided by its period, rounded up. That is 1 where the bound is within the period.
+fn most_of(class: Class, row: Row, limit: u64) -> u64
+    requires { ⌜ 0 < limit ⌝ }
+    ensures { λ r. ⌜ r ≡ part class (λ x. ceilDiv limit (periodOf x)) row ⌝ }
+    ensures small { λ r. ⌜ r ≤ limit ⌝ }
+{
+    let of = row.class;
+    if !same_class(class, of) {
+        return 0;
+    }
+    let p = period(row);
+    if limit <= p {
+        return 1;
+    }
+    ceil_div(limit, p)
+}
+
+// The rows' bounds held against their deadlines, and counted against their periods, up to the first row that is late.
+fn judged(t: Table, limits: [u64; ROWS]) -> Judgement
     requires { ⌜ t .count ≤ mostRows ⌝ }
     requires { ⌜ limits ≡ bounds (contents t) ⌝ }
-    ensures { λ r. ⌜ r ≡ passing (timely (contents t)) (rowsOf t) ⌝ }
+    ensures { λ r. ⌜ JudgementOf (contents t) r ⌝ }
 {
     let n = t.count;
+    let mut a: u64 = 0;
+    let mut b: u64 = 0;
     let mut i: usize = 0;
     while i < n {
         let this = t.rows[i];
         let limit = limits[i];
         if (this.deadline as u64) < limit {
-            return i;
+            return Judgement { timely: i, a, b };
         }
+        a += most_of(Class::A, this, limit);
+        b += most_of(Class::B, this, limit);
         i += 1;
     }
-    i
+    Judgement { timely: i, a, b }
 }
 
 // A refusal, with zeros for figures.
@@ -162,7 +189,7 @@ fn refused(r: Refusal) -> Plan
     }
 }
 
-// The plan of a table that only a late row can still have refused.
+// The plan of a table that only a late row or a class with too many frames can still have refused.
 fn timely_plan(t: Table, f: Figures, g: Figures) -> Plan
     requires { ⌜ Summed (contents t) f g ⌝ }
     requires { ⌜ Passed (contents t) ⌝ }
@@ -172,9 +199,15 @@ fn timely_plan(t: Table, f: Figures, g: Figures) -> Plan
     let a = lane_a(h, f, g);
     let b = lane_b(h, f, g);
     let bounds = row_bounds(t, a, b);
-    let row = in_time(t, bounds);
-    if row < t.count {
-        return refused(Refusal::Deadline(row));
+    let found = judged(t, bounds);
+    if found.timely < t.count {
+        return refused(Refusal::Deadline(found.timely));
+    }
+    if (CLASS_PLACES as u64) < found.a {
+        return refused(Refusal::Frames(Class::A));
+    }
+    if (CLASS_PLACES as u64) < found.b {
+        return refused(Refusal::Frames(Class::B));
     }
     Plan {
         verdict: Verdict::Accepted,

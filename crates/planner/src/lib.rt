@@ -21,6 +21,13 @@ struct Figures {
     shares: u64,
 }
 
+// How many rows are in time before the first that is not; where all are, how many frames each class may have in the port.
+struct Judgement {
+    timely: usize,
+    a: u64,
+    b: u64,
+}
+
 // What a class's bounds are made of: idle slope, largest wire size, sum of wire sizes, blocking.
 pub struct Lane {
     pub idle: u64,

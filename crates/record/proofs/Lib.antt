@@ -1,5 +1,4 @@
 -- Laws that belong to no one function.
-mod Counting
 mod Parts
 mod Viewed
 mod Walk

@@ -1,26 +1,30 @@
 -- The tests of the record check against document 01's clauses: a record passes the one exactly if it passes the other.
-use Prim.Native.Nat.{ℕ, _-_}
+use Prim.Native.Nat.{ℕ, zero, suc, _-_, _<_}
 use mathlib.Core.Bool.{Bool, true, false, _&&_, _||_, false≢true}
-use mathlib.Core.List.{List, [], _∷_}
+use mathlib.Core.List.{List, [], _∷_, _++_}
 use mathlib.Core.Path.{_≡_, refl, sym, _∙_}
 use native.Mathlib.Omega.{arith}
 use lib.Dec.{leb, ltb}
-use lib.ListN.{getD}
+use lib.ListN.{length, getD}
+use borrow.Author.Tests.{le-leb}
 use Rattle.table.specs.declared.Class.{Class}
 use Rattle.table.specs.declared.Class.the-variants.{A, B}
-use Rattle.table.specs.Rows.{Contents, rowAt}
+use Rattle.table.specs.Wire.{periodOf}
+use Rattle.table.specs.Rows.{Contents, rowAt, InUse}
 use Rattle.planner.specs.Sums.{bestSize}
 use Rattle.table.proofs.Laws as table
-use Rattle.planner.specs.Bound.{residence, bounds}
+use Rattle.planner.specs.Bound.{residence, bounds, mostOf}
+use Rattle.planner.specs.Opening.{IsAccepted}
 use Rattle.planner.proofs.Laws as law
 use Rattle.machine.specs.declared.Frame.{Frame}
 use Rattle.machine.specs.declared.Wire.{Wire}
 use Rattle.machine.specs.declared.Wire.the-variants.{Free, Sending}
-use Rattle.machine.specs.State.{Instant, never, State}
+use Rattle.machine.specs.State.{never, State}
 use Rattle.machine.specs.Time.{shaped, unshaped, owner}
-use Rattle.machine.specs.Record.{allOf, onSending, namesRow, isBest, rowIn, sizeWithin, rowSize, sizeBy, takenBy, rowOnly, isAt, tableSound, clockSound, creditSound, bestSound, namesSound, queuesSound, sizesSound, leftSound, framesTaken, rowsTaken, heldSound, latestSound, ageSound, sound}
-use Rattle.machine.proofs.FromSound.{three-true, four-true, Clauses, clauses}
+use Rattle.machine.specs.Record.{allOf, onSending, namesRow, isBest, rowIn, sizeWithin, rowSize, sizeBy, takenBy, sending, takenOf, upTo, spaced, endsAt, rowOnly, tableSound, clockSound, creditSound, bestSound, namesSound, queuesSound, sizesSound, leftSound, framesTaken, rowsTaken, heldSound, apartSound, latestSound, ageSound, sound}
+use Rattle.machine.proofs.FromSound.{three-true, four-true, Clauses, clauses, table-accepted, is-accepted}
 use Rattle.frames.specs.Tests.{rowTest, frameTest, bestTest, sendingTest}
+use Rattle.tally.specs.Rows.{inLimit, instantsTest, heldTest}
 use Rattle.record.specs.Steps.{numbersTest, framesTest, rowsTest}
 
 -- ---- tests
@@ -43,55 +47,68 @@ all-both x y (f ∷ q) = go (x f) (y f) (allOf x q) (allOf y q) (all-both x y q)
     go true false false d p = refl
     go false b c d p = refl
 
--- ---- a class's queue
-abbrev latestBy : List Instant → Frame → Bool
-latestBy ls f = isAt (f .taken) (getD ls (f .source) never)
+-- a test of each number below n that is made of two
+up-to-both : (n : ℕ) (x y : ℕ → Bool) → upTo n (λ k. x k && y k) ≡ (upTo n x && upTo n y)
+up-to-both zero x y = refl
+up-to-both (suc n) x y = go (x n) (y n) (upTo n x) (upTo n y) (up-to-both n x y)
+  where
+    go : (a b c d : Bool) {e : Bool} → e ≡ (c && d) → (e && (a && b)) ≡ ((c && a) && (d && b))
+    go a b true d {e} p = rw p (mid a b d)
+      where
+        mid : (a b d : Bool) → (d && (a && b)) ≡ (a && (d && b))
+        mid true b d = refl
+        mid false b true = refl
+        mid false b false = refl
+    go a b false d p = rw p refl
 
+up-to-same : (n : ℕ) (ok too : ℕ → Bool) → ((k : ℕ) → k < n → ok k ≡ too k) → upTo n ok ≡ upTo n too
+up-to-same zero ok too e = refl
+up-to-same (suc n) ok too e = rw (up-to-same n ok too (λ k h. e k (omega arith)), e n (omega arith)) refl
+
+-- ---- a class's queue
 abbrev youngBy : Contents → ℕ → Frame → Bool
 youngBy t now f = ltb (now - f .taken) (residence t (rowAt t (f .source)))
 
-record OfQueue (c : Class) (t : Contents) (ls : List Instant) (now : ℕ) (q : List Frame) : Type 0 where
+record OfQueue (c : Class) (t : Contents) (now : ℕ) (q : List Frame) : Type 0 where
   names : allOf (namesRow t) q ≡ true
   class : allOf (rowIn c t) q ≡ true
   sizes : allOf (rowSize t) q ≡ true
   taken : allOf (takenBy now) q ≡ true
-  latest : allOf (latestBy ls) q ≡ true
   young : allOf (youngBy t now) q ≡ true
 
-module _ (c : Class) (t : Contents) (ls : List Instant) (now : ℕ) (q : List Frame) where
+module _ (c : Class) (t : Contents) (now : ℕ) (q : List Frame) where
   abbrev fits : Frame → Bool
   fits f = rowIn c t f && rowSize t f
 
   abbrev timely : Frame → Bool
-  timely f = (takenBy now f && latestBy ls f) && youngBy t now f
+  timely f = takenBy now f && youngBy t now f
 
   -- a row's limit is its residence
-  frame-tests : (f : Frame) → frameTest c t (bounds t) ls now f ≡ (namesRow t f && (fits f && timely f))
+  frame-tests : (f : Frame) → frameTest c t (bounds t) now f ≡ (namesRow t f && (fits f && timely f))
   unfolding frameTest rowTest
   frame-tests f = go (namesRow t f) refl
     where
-      go : (b : Bool) → namesRow t f ≡ b → frameTest c t (bounds t) ls now f ≡ (namesRow t f && (fits f && timely f))
+      go : (b : Bool) → namesRow t f ≡ b → frameTest c t (bounds t) now f ≡ (namesRow t f && (fits f && timely f))
       go true e =
           let limit : getD (bounds t) (f .source) 0 ≡ residence t (rowAt t (f .source)) = omega (arith, law.bounds-row t (f .source) (table.is-used t (f .source) e), law.bound-report t (rowAt t (f .source))) in
           rw (e, limit) refl
       go false e = rw e refl
 
-  queue-tests : allOf (frameTest c t (bounds t) ls now) q ≡ (allOf (namesRow t) q && ((allOf (rowIn c t) q && allOf (rowSize t) q) && ((allOf (takenBy now) q && allOf (latestBy ls) q) && allOf (youngBy t now) q)))
+  queue-tests : allOf (frameTest c t (bounds t) now) q ≡ (allOf (namesRow t) q && ((allOf (rowIn c t) q && allOf (rowSize t) q) && (allOf (takenBy now) q && allOf (youngBy t now) q)))
   queue-tests =
-      rw (all-same (frameTest c t (bounds t) ls now) (λ f. namesRow t f && (fits f && timely f)) frame-tests q, all-both (namesRow t) (λ f. fits f && timely f) q, all-both fits timely q, all-both (rowIn c t) (rowSize t) q, all-both (λ f. takenBy now f && latestBy ls f) (youngBy t now) q, all-both (takenBy now) (latestBy ls) q)
+      rw (all-same (frameTest c t (bounds t) now) (λ f. namesRow t f && (fits f && timely f)) frame-tests q, all-both (namesRow t) (λ f. fits f && timely f) q, all-both fits timely q, all-both (rowIn c t) (rowSize t) q, all-both (takenBy now) (youngBy t now) q)
       refl
 
-  of-queue : allOf (frameTest c t (bounds t) ls now) q ≡ true → OfQueue c t ls now q
+  of-queue : allOf (frameTest c t (bounds t) now) q ≡ true → OfQueue c t now q
   of-queue e =
       let p = table.and-true (allOf (namesRow t) q) _ (sym queue-tests ∙ e) in
       let f = table.and-true (allOf (rowIn c t) q && allOf (rowSize t) q) _ (p .1) in
       let g = table.and-true (allOf (rowIn c t) q) (allOf (rowSize t) q) (f .0) in
-      let h = table.and-true (allOf (takenBy now) q && allOf (latestBy ls) q) (allOf (youngBy t now) q) (f .1) in
-      let k = table.and-true (allOf (takenBy now) q) (allOf (latestBy ls) q) (h .0) in
-      record { names = p .0; class = g .0; sizes = g .1; taken = k .0; latest = k .1; young = h .1 }
+      let h = table.and-true (allOf (takenBy now) q) (allOf (youngBy t now) q) (f .1) in
+      record { names = p .0; class = g .0; sizes = g .1; taken = h .0; young = h .1 }
 
-  queue-passes : OfQueue c t ls now q → allOf (frameTest c t (bounds t) ls now) q ≡ true
-  queue-passes p = queue-tests ∙ rw (p .names, p .class, p .sizes, p .taken, p .latest, p .young) refl
+  queue-passes : OfQueue c t now q → allOf (frameTest c t (bounds t) now) q ≡ true
+  queue-passes p = queue-tests ∙ rw (p .names, p .class, p .sizes, p .taken, p .young) refl
 
 -- ---- the best-effort queue
 record OfBest (most now : ℕ) (q : List Frame) : Type 0 where
@@ -114,15 +131,14 @@ module _ (most now : ℕ) (q : List Frame) where
   best-passes p = best-tests ∙ rw (p .marks, p .sizes, p .taken) refl
 
 -- ---- the wire
-record OfWire (t : Contents) (ls : List Instant) (now : ℕ) (w : Wire) : Type 0 where
+record OfWire (t : Contents) (now : ℕ) (w : Wire) : Type 0 where
   names : onSending (λ f left. namesRow t f || isBest f) w ≡ true
   sizes : onSending (λ f left. sizeBy (owner t f) t f) w ≡ true
   left : onSending (λ f left. leb 1 left && leb left (f .size)) w ≡ true
   taken : onSending (λ f left. takenBy now f) w ≡ true
-  latest : onSending (λ f left. rowOnly (owner t f) (latestBy ls f)) w ≡ true
   young : onSending (λ f left. rowOnly (owner t f) (youngBy t now f)) w ≡ true
 
-module _ (t : Contents) (ls : List Instant) (now : ℕ) where
+module _ (t : Contents) (now : ℕ) where
   -- a frame on the wire that names a row, or does not
   owned : (f : Frame) → namesRow t f ≡ true → owner t f ≡ shaped (rowAt t (f .source) .class)
   unfolding owner
@@ -139,28 +155,27 @@ module _ (t : Contents) (ls : List Instant) (now : ℕ) where
     abbrev own : Class
     own = rowAt t (f .source) .class
 
-    by-row : namesRow t f ≡ true → sendingTest t (bounds t) ls now f left ≡ (bytes && frameTest own t (bounds t) ls now f)
+    by-row : namesRow t f ≡ true → sendingTest t (bounds t) now f left ≡ (bytes && frameTest own t (bounds t) now f)
     unfolding sendingTest
     by-row n = rw n refl
 
-    by-mark : namesRow t f ≡ false → sendingTest t (bounds t) ls now f left ≡ (bytes && bestTest (bestSize t) now f)
+    by-mark : namesRow t f ≡ false → sendingTest t (bounds t) now f left ≡ (bytes && bestTest (bestSize t) now f)
     unfolding sendingTest
     by-mark n = rw n refl
 
-    of-row : namesRow t f ≡ true → sendingTest t (bounds t) ls now f left ≡ true → OfWire t ls now (Sending f left)
+    of-row : namesRow t f ≡ true → sendingTest t (bounds t) now f left ≡ true → OfWire t now (Sending f left)
     of-row n e =
-        let p = table.and-true bytes (frameTest own t (bounds t) ls now f) (sym (by-row n) ∙ e) in
-        let q = of-queue own t ls now (f ∷ []) (rw (p .1) refl) in
+        let p = table.and-true bytes (frameTest own t (bounds t) now f) (sym (by-row n) ∙ e) in
+        let q = of-queue own t now (f ∷ []) (rw (p .1) refl) in
         record {
           names = rw n refl;
           sizes = rw (owned f n) (table.and-true (rowSize t f) true (q .sizes) .0);
           left = p .0;
           taken = table.and-true (takenBy now f) true (q .taken) .0;
-          latest = rw (owned f n) (table.and-true (latestBy ls f) true (q .latest) .0);
           young = rw (owned f n) (table.and-true (youngBy t now f) true (q .young) .0);
         }
 
-    of-mark : namesRow t f ≡ false → sendingTest t (bounds t) ls now f left ≡ true → OfWire t ls now (Sending f left)
+    of-mark : namesRow t f ≡ false → sendingTest t (bounds t) now f left ≡ true → OfWire t now (Sending f left)
     of-mark n e =
         let p = table.and-true bytes (bestTest (bestSize t) now f) (sym (by-mark n) ∙ e) in
         let q = of-best (bestSize t) now (f ∷ []) (rw (p .1) refl) in
@@ -169,20 +184,18 @@ module _ (t : Contents) (ls : List Instant) (now : ℕ) where
           sizes = rw (unowned f n) (table.and-true (sizeWithin (bestSize t) f) true (q .sizes) .0);
           left = p .0;
           taken = table.and-true (takenBy now f) true (q .taken) .0;
-          latest = rw (unowned f n) refl;
           young = rw (unowned f n) refl;
         }
 
-    row-passes : namesRow t f ≡ true → OfWire t ls now (Sending f left) → sendingTest t (bounds t) ls now f left ≡ true
+    row-passes : namesRow t f ≡ true → OfWire t now (Sending f left) → sendingTest t (bounds t) now f left ≡ true
     row-passes n w =
         let sizes : rowSize t f ≡ true = rw (owned f n) at (w .sizes) in
-        let latest : latestBy ls f ≡ true = rw (owned f n) at (w .latest) in
         let young : youngBy t now f ≡ true = rw (owned f n) at (w .young) in
-        let q : OfQueue own t ls now (f ∷ []) = record { names = rw n refl; class = rw (table.same-self own) refl; sizes = rw sizes refl; taken = rw (w .taken) refl; latest = rw latest refl; young = rw young refl } in
-        let e = table.and-true (frameTest own t (bounds t) ls now f) true (queue-passes own t ls now (f ∷ []) q) .0 in
+        let q : OfQueue own t now (f ∷ []) = record { names = rw n refl; class = rw (table.same-self own) refl; sizes = rw sizes refl; taken = rw (w .taken) refl; young = rw young refl } in
+        let e = table.and-true (frameTest own t (bounds t) now f) true (queue-passes own t now (f ∷ []) q) .0 in
         by-row n ∙ rw (w .left, e) refl
 
-    mark-passes : namesRow t f ≡ false → OfWire t ls now (Sending f left) → sendingTest t (bounds t) ls now f left ≡ true
+    mark-passes : namesRow t f ≡ false → OfWire t now (Sending f left) → sendingTest t (bounds t) now f left ≡ true
     mark-passes n w =
         let sizes : sizeWithin (bestSize t) f ≡ true = rw (unowned f n) at (w .sizes) in
         let marks : isBest f ≡ true = rw n at (w .names) in
@@ -190,19 +203,19 @@ module _ (t : Contents) (ls : List Instant) (now : ℕ) where
         let e = table.and-true (bestTest (bestSize t) now f) true (best-passes (bestSize t) now (f ∷ []) q) .0 in
         by-mark n ∙ rw (w .left, e) refl
 
-  of-wire : (w : Wire) → onSending (sendingTest t (bounds t) ls now) w ≡ true → OfWire t ls now w
-  of-wire Free e = record { names = refl; sizes = refl; left = refl; taken = refl; latest = refl; young = refl }
+  of-wire : (w : Wire) → onSending (sendingTest t (bounds t) now) w ≡ true → OfWire t now w
+  of-wire Free e = record { names = refl; sizes = refl; left = refl; taken = refl; young = refl }
   of-wire (Sending f left) e = go (namesRow t f) refl
     where
-      go : (b : Bool) → namesRow t f ≡ b → OfWire t ls now (Sending f left)
+      go : (b : Bool) → namesRow t f ≡ b → OfWire t now (Sending f left)
       go true n = of-row f left n e
       go false n = of-mark f left n e
 
-  wire-passes : (w : Wire) → OfWire t ls now w → onSending (sendingTest t (bounds t) ls now) w ≡ true
+  wire-passes : (w : Wire) → OfWire t now w → onSending (sendingTest t (bounds t) now) w ≡ true
   wire-passes Free p = refl
   wire-passes (Sending f left) p = go (namesRow t f) refl
     where
-      go : (b : Bool) → namesRow t f ≡ b → sendingTest t (bounds t) ls now f left ≡ true
+      go : (b : Bool) → namesRow t f ≡ b → sendingTest t (bounds t) now f left ≡ true
       go true n = row-passes f left n p
       go false n = mark-passes f left n p
 
@@ -212,48 +225,47 @@ pub record Passes (s : State) : Type 0 where
   pub numbers : numbersTest s ≡ true
   pub best : bestSound s ≡ true
   pub frames : framesTest (bounds (s .table)) s ≡ true
-  pub rows : rowsTest s ≡ true
+  pub rows : rowsTest (bounds (s .table)) s ≡ true
 
 module _ (s : State) where
   abbrev ofQueue : Class → List Frame → Type 0
-  ofQueue c q = OfQueue c (s .table) (s .last) (s .clock) q
+  ofQueue c q = OfQueue c (s .table) (s .clock) q
 
   -- the tests of the frames, part by part
   record OfFrames : Type 0 where
     a : ofQueue A (s .a)
     b : ofQueue B (s .b)
     best : OfBest (bestSize (s .table)) (s .clock) (s .best)
-    wire : OfWire (s .table) (s .last) (s .clock) (s .wire)
+    wire : OfWire (s .table) (s .clock) (s .wire)
 
   of-frames : framesTest (bounds (s .table)) s ≡ true → OfFrames
   unfolding framesTest
   of-frames e =
-      let p = table.and-true (allOf (frameTest A (s .table) (bounds (s .table)) (s .last) (s .clock)) (s .a) && allOf (frameTest B (s .table) (bounds (s .table)) (s .last) (s .clock)) (s .b)) _ e in
-      let q = table.and-true (allOf (frameTest A (s .table) (bounds (s .table)) (s .last) (s .clock)) (s .a)) (allOf (frameTest B (s .table) (bounds (s .table)) (s .last) (s .clock)) (s .b)) (p .0) in
-      let r = table.and-true (allOf (bestTest (bestSize (s .table)) (s .clock)) (s .best)) (onSending (sendingTest (s .table) (bounds (s .table)) (s .last) (s .clock)) (s .wire)) (p .1) in
-      record { a = of-queue A _ _ _ _ (q .0); b = of-queue B _ _ _ _ (q .1); best = of-best _ _ _ (r .0); wire = of-wire _ _ _ (s .wire) (r .1) }
+      let p = table.and-true (allOf (frameTest A (s .table) (bounds (s .table)) (s .clock)) (s .a) && allOf (frameTest B (s .table) (bounds (s .table)) (s .clock)) (s .b)) _ e in
+      let q = table.and-true (allOf (frameTest A (s .table) (bounds (s .table)) (s .clock)) (s .a)) (allOf (frameTest B (s .table) (bounds (s .table)) (s .clock)) (s .b)) (p .0) in
+      let r = table.and-true (allOf (bestTest (bestSize (s .table)) (s .clock)) (s .best)) (onSending (sendingTest (s .table) (bounds (s .table)) (s .clock)) (s .wire)) (p .1) in
+      record { a = of-queue A _ _ _ (q .0); b = of-queue B _ _ _ (q .1); best = of-best _ _ _ (r .0); wire = of-wire _ _ (s .wire) (r .1) }
 
   frames-pass : OfFrames → framesTest (bounds (s .table)) s ≡ true
   unfolding framesTest
   frames-pass p =
-      rw (queue-passes A (s .table) (s .last) (s .clock) (s .a) (p .a), queue-passes B (s .table) (s .last) (s .clock) (s .b) (p .b), best-passes (bestSize (s .table)) (s .clock) (s .best) (p .best), wire-passes (s .table) (s .last) (s .clock) (s .wire) (p .wire))
+      rw (queue-passes A (s .table) (s .clock) (s .a) (p .a), queue-passes B (s .table) (s .clock) (s .b) (p .b), best-passes (bestSize (s .table)) (s .clock) (s .best) (p .best), wire-passes (s .table) (s .clock) (s .wire) (p .wire))
       refl
 
   -- the clauses of a sound record, part by part
   of-clauses : Clauses s → OfFrames
-  unfolding namesSound queuesSound sizesSound leftSound framesTaken latestSound ageSound
+  unfolding namesSound queuesSound sizesSound leftSound framesTaken ageSound
   of-clauses c =
       let n = three-true _ _ _ (c .names) in
       let q = three-true _ _ _ (c .queues) in
       let z = four-true _ _ _ _ (c .sizes) in
       let k = four-true _ _ _ _ (c .frames) in
-      let l = three-true _ _ _ (c .latest) in
       let y = three-true _ _ _ (c .age) in
       record {
-        a = record { names = n .0; class = q .0; sizes = z .0; taken = k .0; latest = l .0; young = y .0 };
-        b = record { names = n .1; class = q .1; sizes = z .1; taken = k .1; latest = l .1; young = y .1 };
+        a = record { names = n .0; class = q .0; sizes = z .0; taken = k .0; young = y .0 };
+        b = record { names = n .1; class = q .1; sizes = z .1; taken = k .1; young = y .1 };
         best = record { marks = q .2; sizes = z .2; taken = k .2 };
-        wire = record { names = n .2; sizes = z .3; left = c .left; taken = k .3; latest = l .2; young = y .2 };
+        wire = record { names = n .2; sizes = z .3; left = c .left; taken = k .3; young = y .2 };
       }
 
   module _ (p : OfFrames) where
@@ -277,10 +289,6 @@ module _ (s : State) where
     unfolding framesTaken
     taken-hold = rw (p .a .taken, p .b .taken, p .best .taken, p .wire .taken) refl
 
-    latest-hold : latestSound s ≡ true
-    unfolding latestSound
-    latest-hold = rw (p .a .latest, p .b .latest, p .wire .latest) refl
-
     young-hold : ageSound s ≡ true
     unfolding ageSound
     young-hold = rw (p .a .young, p .b .young, p .wire .young) refl
@@ -292,28 +300,59 @@ module _ (s : State) where
       let q = table.and-true (creditSound A s) (creditSound B s) (p .1) in
       (p .0, q .0, q .1)
 
-  rows-hold : rowsTest s ≡ true → (rowsTaken s ≡ true) × (heldSound s ≡ true)
-  unfolding rowsTest
-  rows-hold e = table.and-true (rowsTaken s) (heldSound s) e
+  -- the test of each row is that of its count, of the spaces between its frames and of the newest
+  abbrev few : ℕ → Bool
+  few k = leb (length (takenOf k s)) (mostOf (s .table) (rowAt (s .table) k))
+
+  abbrev spread : ℕ → Bool
+  spread k = spaced (periodOf (rowAt (s .table) k)) (takenOf k s)
+
+  abbrev latest : ℕ → Bool
+  latest k = endsAt (takenOf k s) (getD (s .last) k never)
+
+  module _ (ok : IsAccepted (s .table)) where
+    row-tests : (k : ℕ) → k < length (s .table .rows) → heldTest (s .table) (bounds (s .table)) (s .last) (sending (s .wire) ++ (s .a ++ s .b)) k ≡ (few k && (spread k && latest k))
+    unfolding heldTest instantsTest takenOf
+    row-tests k h =
+        let in-use : InUse (s .table) k = record { below = h } in
+        let limit : getD (bounds (s .table)) k 0 ≡ residence (s .table) (rowAt (s .table) k) = omega (arith, law.bounds-row (s .table) k in-use, law.bound-report (s .table) (rowAt (s .table) k)) in
+        rw (limit, count-same (length (takenOf k s)) k in-use) refl
+      where
+        count-same : (n k : ℕ) → InUse (s .table) k → inLimit n (periodOf (rowAt (s .table) k)) (residence (s .table) (rowAt (s .table) k)) ≡ leb n (mostOf (s .table) (rowAt (s .table) k))
+        count-same zero k u = sym (le-leb 0 (mostOf (s .table) (rowAt (s .table) k)) (omega arith))
+        count-same (suc n) k u = law.most-periods (s .table) ok k u n
+
+    rows-tests : rowsTest (bounds (s .table)) s ≡ (rowsTaken s && (heldSound s && (apartSound s && latestSound s)))
+    unfolding rowsTest heldSound apartSound latestSound
+    rows-tests =
+        rw (up-to-same (length (s .table .rows)) (heldTest (s .table) (bounds (s .table)) (s .last) (sending (s .wire) ++ (s .a ++ s .b))) (λ k. few k && (spread k && latest k)) row-tests, up-to-both (length (s .table .rows)) few (λ k. spread k && latest k), up-to-both (length (s .table .rows)) spread latest)
+        refl
+
+    rows-hold : rowsTest (bounds (s .table)) s ≡ true → (rowsTaken s ≡ true) × (heldSound s ≡ true) × (apartSound s ≡ true) × (latestSound s ≡ true)
+    rows-hold e =
+        let p = table.and-true (rowsTaken s) _ (sym rows-tests ∙ e) in
+        let q = table.and-true (heldSound s) _ (p .1) in
+        let r = table.and-true (apartSound s) (latestSound s) (q .1) in
+        (p .0, q .0, r .0, r .1)
 
   pub passes : sound s ≡ true → Passes s
-  unfolding numbersTest rowsTest
+  unfolding numbersTest
   passes e =
       let c = clauses s e in
-      record { table = c .table; numbers = rw (c .clock, c .credit-a, c .credit-b) refl; best = c .best; frames = frames-pass (of-clauses c); rows = rw (c .rows, c .held) refl }
+      record { table = c .table; numbers = rw (c .clock, c .credit-a, c .credit-b) refl; best = c .best; frames = frames-pass (of-clauses c); rows = rows-tests (is-accepted s c) ∙ rw (c .rows, c .held, c .apart, c .latest) refl }
 
   pub passed : Passes s → sound s ≡ true
   unfolding sound
   passed p =
       let n = numbers-hold (p .numbers) in
       let f = of-frames (p .frames) in
-      let r = rows-hold (p .rows) in
-      rw (p .table, n .0, n .1, n .2, p .best, names-hold f, queues-hold f, sizes-hold f, left-holds f, taken-hold f, r .0, r .1, latest-hold f, young-hold f) refl
+      let r = rows-hold (table-accepted s (p .table)) (p .rows) in
+      rw (p .table, n .0, n .1, n .2, p .best, names-hold f, queues-hold f, sizes-hold f, left-holds f, taken-hold f, r .0, r .1, r .2, r .3, young-hold f) refl
 
   -- a record that fails a test is broken
   pub broken : (Passes s → ⊥) → false ≡ sound s
   broken fails = same-test false (sound s) (λ e. absurd (false≢true e)) (λ e. absurd (fails (passes e)))
 
   -- of a record that passes the others, the test of its rows decides
-  pub by-rows : tableSound s ≡ true → numbersTest s ≡ true → bestSound s ≡ true → framesTest (bounds (s .table)) s ≡ true → rowsTest s ≡ sound s
-  by-rows t n b f = same-test (rowsTest s) (sound s) (λ r. passed record { table = t; numbers = n; best = b; frames = f; rows = r }) (λ e. passes e .rows)
+  pub by-rows : tableSound s ≡ true → numbersTest s ≡ true → bestSound s ≡ true → framesTest (bounds (s .table)) s ≡ true → rowsTest (bounds (s .table)) s ≡ sound s
+  by-rows t n b f = same-test (rowsTest (bounds (s .table)) s) (sound s) (λ r. passed record { table = t; numbers = n; best = b; frames = f; rows = r }) (λ e. passes e .rows)

@@ -14,7 +14,6 @@ ghost use Rattle.machine.specs.Limits.{classPlaces};
 ghost use Rattle.machine.specs.State.{instantOf, view};
 ghost use Rattle.machine.specs.Record.{between, notAfter, noneAfter, sound};
 ghost use Rattle.record.specs.Steps.{numbersTest, framesTest, rowsTest};
-use crate::tally::within_most;
 use frames::tests::best_ok;
 use frames::tests::queue_ok;
 use frames::tests::wire_ok;
@@ -28,6 +27,8 @@ use table::ROWS;
 use table::Verdict;
 use table::wire::D;
 use table::wire::wire_size;
+use tally::rows::held_ok;
+use tally::rows::no_frame;
 
 // A credit is in range, from −low to high.
 fn within(credit: i64, low: u64, high: u64) -> bool
@@ -73,17 +74,16 @@ fn frames_ok(p: Port, limits: [u64; ROWS]) -> bool
     ensures { λ r. ⌜ r ≡ framesTest limits (view p) ⌝ }
 {
     let t = p.table;
-    let last = p.last;
     let clock = p.clock;
     if 0 < p.a.count {
         let a = p.a;
-        if !queue_ok(Class::A, a, t, limits, last, clock) {
+        if !queue_ok(Class::A, a, t, limits, clock) {
             return false;
         }
     }
     if 0 < p.b.count {
         let b = p.b;
-        if !queue_ok(Class::B, b, t, limits, last, clock) {
+        if !queue_ok(Class::B, b, t, limits, clock) {
             return false;
         }
     }
@@ -94,7 +94,7 @@ fn frames_ok(p: Port, limits: [u64; ROWS]) -> bool
         }
     }
     let w = p.wire;
-    wire_ok(w, t, limits, last, clock)
+    wire_ok(w, t, limits, clock)
 }
 
 // A row's last instant is not after the clock.
@@ -123,23 +123,25 @@ fn instants_ok(last: [Last; ROWS], n: usize, clock: u64) -> bool
     true
 }
 
-// The rows in use of a record whose counts fit their places: no instant after the clock, no row with more frames than it may have.
-fn rows_ok(p: Port) -> bool
+// The rows in use of a record whose counts fit their places: no instant after the clock, and each row's frames as many, as far apart and as new as they may be.
+fn rows_ok(p: Port, limits: [u64; ROWS]) -> bool
     requires { ⌜ p .table .count ≤ mostRows ⌝ }
-    requires { ⌜ p .a .count ≤ classPlaces ⌝ }
-    requires { ⌜ p .b .count ≤ classPlaces ⌝ }
-    ensures { λ r. ⌜ r ≡ rowsTest (view p) ⌝ }
+    requires { ⌜ (p .a .count ≤ classPlaces) × (p .b .count ≤ classPlaces) ⌝ }
+    ensures { λ r. ⌜ r ≡ rowsTest limits (view p) ⌝ }
 {
-    let t = p.table;
-    let n = t.count;
+    let n = p.table.count;
     let last = p.last;
     if !instants_ok(last, n, p.clock) {
         return false;
     }
+    let w = p.wire;
+    if no_frame(w, p.a.count, p.b.count) {
+        return true;
+    }
+    let t = p.table;
     let a = p.a;
     let b = p.b;
-    let w = p.wire;
-    within_most(a, b, w, n)
+    held_ok(w, a, b, t, limits, last)
 }
 
 // A record whose table is accepted. A count above its queue's places fails with the frames: those without a place pass no test.
@@ -156,7 +158,7 @@ fn parts_ok(p: Port, a: Lane, b: Lane, limits: [u64; ROWS]) -> bool
     if !frames_ok(p, limits) {
         return false;
     }
-    rows_ok(p)
+    rows_ok(p, limits)
 }
 
 // Whether a record is sound. Its content may be any.

@@ -1,3 +1,2 @@
 // The record check: whether a port record, of any content, is sound.
 pub mod check;
-mod tally;

@@ -1,11 +1,13 @@
 -- One field, pace, row, frame, instant or wire: its words give it back, pass the test, and are those of what the test lets pass.
-use Prim.Native.Nat.{ℕ, _+_, _-_, _<_, _^_}
+use Prim.Native.Nat.{ℕ, _+_, _-_, _%_, _<_, _^_}
 use mathlib.Core.Bool.{Bool, true, false, cond, _&&_}
 use mathlib.Core.List.{List}
-use mathlib.Core.Path.{_≡_, refl}
+use mathlib.Core.Path.{_≡_, refl, sym}
+use native.Mathlib.Nat.{mod-eq-of-lt, mod-lt}
 use native.Mathlib.Omega.{arith}
 use lib.Dec.{leb, eqb}
 use lib.IntN.{ℤ, pos, negsuc}
+use lib.Pow.{pow-pos}
 use lib.Signed.{mag}
 use borrow.Author.Needs.{needs}
 use borrow.Author.Tests.{le-leb, lt-leb, leb-true, leb-false, eqb-true, eqb-false}
@@ -22,28 +24,16 @@ use Rattle.machine.specs.State.{Instant, never, at}
 use Rattle.words.specs.Words.{Every, Word, Bytes, wordAt}
 use Rattle.words.proofs.Laws.{Held, word-small}
 use Rattle.recordbytes.specs.Layout.{frameWidth}
-use Rattle.recordbytes.specs.Record.{classWord, paceWords, rowWords, signedWord, frameWords, lastWords, wireWords, u8Of, u16Of, u32Of, classOf, signedOf, paceAt, rowAt, frameAt, instantAt, wireAt, fitsU8, fitsU16, fitsU32, fitsMark, paceFits, rowFits, frameFits, lastFits, wireFits}
+use Rattle.recordbytes.specs.Record.{classWord, paceWords, rowWords, signedWord, frameWords, lastWords, wireWords, u8Of, u32Of, classOf, signedOf, paceAt, rowAt, frameAt, instantAt, wireAt, fitsU8, fitsU16, fitsU32, fitsMark, paceFits, rowFits, frameFits, lastFits, wireFits}
 use Rattle.recordbytes.specs.Fits.{PaceFits, RowFits, FrameFits, InstantFits, WireFits}
 use Rattle.recordbytes.proofs.Lists.{both}
 
 -- ---- a field's word gives the field back, and passes the test
-u8-back : {w v : ℕ} → w ≡ v → v < 2 ^ 8 → u8Of w ≡ v
-u8-back e h = rw e (omega arith)
+pub bits-back : (n : ℕ) {w v : ℕ} → w ≡ v → v < 2 ^ n → w % 2 ^ n ≡ v
+bits-back n e h = rw e (mod-eq-of-lt h)
 
-pub u16-back : {w v : ℕ} → w ≡ v → v < 2 ^ 16 → u16Of w ≡ v
-u16-back e h = rw e (omega arith)
-
-pub u32-back : {w v : ℕ} → w ≡ v → v < 2 ^ 32 → u32Of w ≡ v
-u32-back e h = rw e (omega arith)
-
-u8-fits : {w v : ℕ} → w ≡ v → v < 2 ^ 8 → fitsU8 w ≡ true
-u8-fits {w} e h = le-leb w 255 (omega arith)
-
-pub u16-fits : {w v : ℕ} → w ≡ v → v < 2 ^ 16 → fitsU16 w ≡ true
-u16-fits {w} e h = le-leb w 65535 (omega arith)
-
-pub u32-fits : {w v : ℕ} → w ≡ v → v < 2 ^ 32 → fitsU32 w ≡ true
-u32-fits {w} e h = le-leb w 4294967295 (omega arith)
+pub bits-fits : (n : ℕ) {w v : ℕ} → w ≡ v → v < 2 ^ n → leb w (2 ^ n - 1) ≡ true
+bits-fits n {w} e h = le-leb w (2 ^ n - 1) (omega arith)
 
 class-back : (c : Class) {w : ℕ} → w ≡ classWord c → classOf w ≡ c
 class-back A e = rw e refl
@@ -61,14 +51,8 @@ signed-back (negsuc n) e h =
     rw (e, lt-leb _ 9223372036854775807 big, back) refl
 
 -- ---- a word that passes is the word of the field that it gives
-u8-same : (w : ℕ) → fitsU8 w ≡ true → w ≡ u8Of w
-u8-same w e = omega (arith, leb-true w 255 e)
-
-pub u16-same : (w : ℕ) → fitsU16 w ≡ true → w ≡ u16Of w
-u16-same w e = omega (arith, leb-true w 65535 e)
-
-pub u32-same : (w : ℕ) → fitsU32 w ≡ true → w ≡ u32Of w
-u32-same w e = omega (arith, leb-true w 4294967295 e)
+pub bits-same : (n w : ℕ) → leb w (2 ^ n - 1) ≡ true → w ≡ w % 2 ^ n
+bits-same n w e = sym (mod-eq-of-lt (omega (arith, leb-true w (2 ^ n - 1) e, pow-pos n)))
 
 class-same : (w : ℕ) → fitsMark w ≡ true → w ≡ classWord (classOf w)
 class-same w e = go (eqb w 0) refl
@@ -95,14 +79,8 @@ pub signed-word : (z : ℤ) → mag z < 2 ^ 63 → Word (signedWord z)
 signed-word (pos n) h = omega arith
 signed-word (negsuc n) h = omega arith
 
-u8-small : (w : ℕ) → u8Of w < 2 ^ 8
-u8-small w = omega arith
-
-u16-small : (w : ℕ) → u16Of w < 2 ^ 16
-u16-small w = omega arith
-
-u32-small : (w : ℕ) → u32Of w < 2 ^ 32
-u32-small w = omega arith
+bits-small : (n w : ℕ) → w % 2 ^ n < 2 ^ n
+bits-small n w = mod-lt w (pow-pos n)
 
 -- ---- the parts, in bytes s
 module _ (s : List ℕ) where
@@ -126,13 +104,13 @@ module _ (s : List ℕ) where
 
   pace-back : (p : Pace) (k : ℕ) → PaceFits p → Held s k (paceWords p) → paceAt s k ≡ p
   unfolding paceAt
-  pace-back (Period p) k f h = rw (h .0, u32-back (h .1 .0) f) refl
-  pace-back (Rated samples rate) k f h = rw (h .0, u32-back (h .1 .0) (f .0), u8-back (second k samples (h .1 .1 .0)) (f .1)) refl
+  pace-back (Period p) k f h = rw (h .0, bits-back 32 (h .1 .0) f) refl
+  pace-back (Rated samples rate) k f h = rw (h .0, bits-back 32 (h .1 .0) (f .0), bits-back 8 (second k samples (h .1 .1 .0)) (f .1)) refl
 
   pace-fits : (p : Pace) (k : ℕ) → PaceFits p → Held s k (paceWords p) → paceFits s k ≡ true
   unfolding paceFits
-  pace-fits (Period p) k f h = rw (h .0) (u32-fits (h .1 .0) f)
-  pace-fits (Rated samples rate) k f h = rw (h .0) (both (u32-fits (h .1 .0) (f .0)) (u8-fits (second k samples (h .1 .1 .0)) (f .1)))
+  pace-fits (Period p) k f h = rw (h .0) (bits-fits 32 (h .1 .0) f)
+  pace-fits (Rated samples rate) k f h = rw (h .0) (both (bits-fits 32 (h .1 .0) (f .0)) (bits-fits 8 (second k samples (h .1 .1 .0)) (f .1)))
 
   pace-same : (k : ℕ) → paceFits s k ≡ true → Held s k (paceWords (paceAt s k))
   unfolding paceFits paceAt
@@ -141,18 +119,18 @@ module _ (s : List ℕ) where
       go : (b : Bool) → eqb (wordAt s k) 1 ≡ b → cond b (fitsU32 (wordAt s (k + 1)) && fitsU8 (wordAt s (k + 2))) (eqb (wordAt s k) 0 && fitsU32 (wordAt s (k + 1))) ≡ true → Held s k (paceWords (cond b (Rated (u8Of (wordAt s (k + 2))) (u32Of (wordAt s (k + 1)))) (Period (u32Of (wordAt s (k + 1))))))
       go true z f =
           let p = and-true (fitsU32 (wordAt s (k + 1))) (fitsU8 (wordAt s (k + 2))) f in
-          (eqb-true (wordAt s k) 1 z, (u32-same (wordAt s (k + 1)) (p .0), (to-second k _ (u8-same (wordAt s (k + 2)) (p .1)), tt)))
+          (eqb-true (wordAt s k) 1 z, (bits-same 32 (wordAt s (k + 1)) (p .0), (to-second k _ (bits-same 8 (wordAt s (k + 2)) (p .1)), tt)))
       go false z f =
           let p = and-true (eqb (wordAt s k) 0) (fitsU32 (wordAt s (k + 1))) f in
-          (eqb-true (wordAt s k) 0 (p .0), (u32-same (wordAt s (k + 1)) (p .1), tt))
+          (eqb-true (wordAt s k) 0 (p .0), (bits-same 32 (wordAt s (k + 1)) (p .1), tt))
 
   pace-small : (k : ℕ) → PaceFits (paceAt s k)
   unfolding paceAt
   pace-small k = go (eqb (wordAt s k) 1)
     where
       go : (c : Bool) → PaceFits (cond c (Rated (u8Of (wordAt s (k + 2))) (u32Of (wordAt s (k + 1)))) (Period (u32Of (wordAt s (k + 1)))))
-      go true = (u32-small (wordAt s (k + 1)), u8-small (wordAt s (k + 2)))
-      go false = u32-small (wordAt s (k + 1))
+      go true = (bits-small 32 (wordAt s (k + 1)), bits-small 8 (wordAt s (k + 2)))
+      go false = bits-small 32 (wordAt s (k + 1))
 
   -- a row
   pub row-words : (r : Row) → RowFits r → Every Word (rowWords r)
@@ -166,44 +144,44 @@ module _ (s : List ℕ) where
   row-back r k f h =
       rw (
         class-back (r .class) (h .0),
-        u16-back (h .1 .0) (f .payload),
-        u32-back (second k (r .deadline) (h .1 .1 .0)) (f .deadline),
+        bits-back 16 (h .1 .0) (f .payload),
+        bits-back 32 (second k (r .deadline) (h .1 .1 .0)) (f .deadline),
         pace-back (r .pace) (k + 3) (f .pace) (from-third k (paceWords (r .pace)) (h .1 .1 .1)),
       )
       refl
 
   pub row-fits : (r : Row) (k : ℕ) → RowFits r → Held s k (rowWords r) → rowFits s k ≡ true
   row-fits r k f h =
-      both (both (class-fits (r .class) (h .0)) (u16-fits (h .1 .0) (f .payload)))
-      (both (u32-fits (second k (r .deadline) (h .1 .1 .0)) (f .deadline)) (pace-fits (r .pace) (k + 3) (f .pace) (from-third k (paceWords (r .pace)) (h .1 .1 .1))))
+      both (both (class-fits (r .class) (h .0)) (bits-fits 16 (h .1 .0) (f .payload)))
+      (both (bits-fits 32 (second k (r .deadline) (h .1 .1 .0)) (f .deadline)) (pace-fits (r .pace) (k + 3) (f .pace) (from-third k (paceWords (r .pace)) (h .1 .1 .1))))
 
   pub row-same : (k : ℕ) → rowFits s k ≡ true → Held s k (rowWords (rowAt s k))
   row-same k e =
       let p = and-true (fitsMark (wordAt s k) && fitsU16 (wordAt s (k + 1))) _ e in
       let q = and-true (fitsMark (wordAt s k)) (fitsU16 (wordAt s (k + 1))) (p .0) in
       let r = and-true (fitsU32 (wordAt s (k + 2))) (paceFits s (k + 3)) (p .1) in
-      (class-same (wordAt s k) (q .0), (u16-same (wordAt s (k + 1)) (q .1), (to-second k _ (u32-same (wordAt s (k + 2)) (r .0)), to-third k (paceWords (paceAt s (k + 3))) (pace-same (k + 3) (r .1)))))
+      (class-same (wordAt s k) (q .0), (bits-same 16 (wordAt s (k + 1)) (q .1), (to-second k _ (bits-same 32 (wordAt s (k + 2)) (r .0)), to-third k (paceWords (paceAt s (k + 3))) (pace-same (k + 3) (r .1)))))
 
   pub row-small : (k : ℕ) → RowFits (rowAt s k)
-  row-small k = record { payload = u16-small (wordAt s (k + 1)); pace = pace-small (k + 3); deadline = u32-small (wordAt s (k + 2)) }
+  row-small k = record { payload = bits-small 16 (wordAt s (k + 1)); pace = pace-small (k + 3); deadline = bits-small 32 (wordAt s (k + 2)) }
 
   -- a frame
   pub frame-words : (x : Frame) → FrameFits x → Every Word (frameWords x)
   frame-words x f = (omega (arith, f .source), (omega (arith, f .size), (f .taken, tt)))
 
   pub frame-back : (x : Frame) (k : ℕ) → FrameFits x → Held s k (frameWords x) → frameAt s k ≡ x
-  frame-back x k f h = rw (u32-back (h .0) (f .source), u32-back (h .1 .0) (f .size), second k (x .taken) (h .1 .1 .0)) refl
+  frame-back x k f h = rw (bits-back 32 (h .0) (f .source), bits-back 32 (h .1 .0) (f .size), second k (x .taken) (h .1 .1 .0)) refl
 
   pub frame-fits : (x : Frame) (k : ℕ) → FrameFits x → Held s k (frameWords x) → frameFits s k ≡ true
-  frame-fits x k f h = both (u32-fits (h .0) (f .source)) (u32-fits (h .1 .0) (f .size))
+  frame-fits x k f h = both (bits-fits 32 (h .0) (f .source)) (bits-fits 32 (h .1 .0) (f .size))
 
   pub frame-same : (k : ℕ) → frameFits s k ≡ true → Held s k (frameWords (frameAt s k))
   frame-same k e =
       let p = and-true (fitsU32 (wordAt s k)) (fitsU32 (wordAt s (k + 1))) e in
-      (u32-same (wordAt s k) (p .0), (u32-same (wordAt s (k + 1)) (p .1), (to-second k _ refl, tt)))
+      (bits-same 32 (wordAt s k) (p .0), (bits-same 32 (wordAt s (k + 1)) (p .1), (to-second k _ refl, tt)))
 
   pub frame-small : Bytes s → (k : ℕ) → FrameFits (frameAt s k)
-  frame-small b k = record { source = u32-small (wordAt s k); size = u32-small (wordAt s (k + 1)); taken = word-small s b (k + 2) }
+  frame-small b k = record { source = bits-small 32 (wordAt s k); size = bits-small 32 (wordAt s (k + 1)); taken = word-small s b (k + 2) }
 
   -- a last instant
   pub last-words : (i : Instant) → InstantFits i → Every Word (lastWords i)
@@ -244,12 +222,12 @@ module _ (s : List ℕ) where
   pub wire-back : (w : Wire) (k : ℕ) → WireFits w → Held s k (wireWords w) → wireAt s k ≡ w
   unfolding wireAt
   wire-back Free k f h = rw (h .0) refl
-  wire-back (Sending x left) k f h = let p = on-wire x left k h in rw (h .0, frame-back x (k + 1) (f .0) (p .0), u32-back (p .1) (f .1)) refl
+  wire-back (Sending x left) k f h = let p = on-wire x left k h in rw (h .0, frame-back x (k + 1) (f .0) (p .0), bits-back 32 (p .1) (f .1)) refl
 
   pub wire-fits : (w : Wire) (k : ℕ) → WireFits w → Held s k (wireWords w) → wireFits s k ≡ true
   unfolding wireFits
   wire-fits Free k f h = rw (h .0) refl
-  wire-fits (Sending x left) k f h = let p = on-wire x left k h in rw (h .0) (both (frame-fits x (k + 1) (f .0) (p .0)) (u32-fits (p .1) (f .1)))
+  wire-fits (Sending x left) k f h = let p = on-wire x left k h in rw (h .0) (both (frame-fits x (k + 1) (f .0) (p .0)) (bits-fits 32 (p .1) (f .1)))
 
   pub wire-same : (k : ℕ) → wireFits s k ≡ true → Held s k (wireWords (wireAt s k))
   unfolding wireFits wireAt
@@ -260,7 +238,7 @@ module _ (s : List ℕ) where
           let p = and-true (frameFits s (k + 1)) (fitsU32 (wordAt s (k + 1 + frameWidth))) f in
           let q = frame-same (k + 1) (p .0) in
           let i : k + 1 + 1 + 1 + 1 ≡ k + 1 + frameWidth = omega arith in
-          (eqb-true (wordAt s k) 1 z, (q .0, (q .1 .0, (q .1 .1 .0, (rw i (u32-same (wordAt s (k + 1 + frameWidth)) (p .1)), tt)))))
+          (eqb-true (wordAt s k) 1 z, (q .0, (q .1 .0, (q .1 .1 .0, (rw i (bits-same 32 (wordAt s (k + 1 + frameWidth)) (p .1)), tt)))))
       go false z f = (eqb-true (wordAt s k) 0 f, tt)
 
   pub wire-small : Bytes s → (k : ℕ) → WireFits (wireAt s k)
@@ -268,5 +246,5 @@ module _ (s : List ℕ) where
   wire-small b k = go (eqb (wordAt s k) 1)
     where
       go : (c : Bool) → WireFits (cond c (Sending (frameAt s (k + 1)) (u32Of (wordAt s (k + 1 + frameWidth)))) Free)
-      go true = (frame-small b (k + 1), u32-small (wordAt s (k + 1 + frameWidth)))
+      go true = (frame-small b (k + 1), bits-small 32 (wordAt s (k + 1 + frameWidth)))
       go false = tt

@@ -211,9 +211,9 @@ module _ (p : State) (s : List ℕ) (fits : Fits p) (st : Stands p s) where
       let rows = rw (← rows-count) at (gathered-back rowWords rowWidth s (rowAt s) RowFits (field.row-back s) rowsStart (p .table .rows) (fits .numbered .rows) (st .rows)) in
       let last = rw (← last-count) at (gathered-back lastWords lastWidth s (instantAt s) InstantFits (field.last-back s) lastStart (p .last) (fits .numbered .last) (st .last)) in
       rw (
-        field.u32-back (st .head .1 .0) (h .idlea),
-        field.u32-back (st .head .1 .1 .0) (h .idleb),
-        field.u16-back (st .head .1 .1 .1 .0) (h .payload),
+        field.bits-back 32 (st .head .1 .0) (h .idlea),
+        field.bits-back 32 (st .head .1 .1 .0) (h .idleb),
+        field.bits-back 16 (st .head .1 .1 .1 .0) (h .payload),
         rows,
         st .numbers .0,
         field.signed-back (p .credita) (st .numbers .1 .0) (fits .numbered .credita),
@@ -238,7 +238,7 @@ module _ (p : State) (s : List ℕ) (fits : Fits p) (st : Stands p s) where
       let right : eqb (wordAt s headStart) version ≡ true = rw (st .head .0) refl in
       let few : leb (wordAt s countPlace) mostRows ≡ true = rw rows-count (le-leb (length (p .table .rows)) mostRows (fits .placed .rows)) in
       both (both right few)
-      (both (both (field.u32-fits (st .head .1 .0) (h .idlea)) (field.u32-fits (st .head .1 .1 .0) (h .idleb))) (field.u16-fits (st .head .1 .1 .1 .0) (h .payload)))
+      (both (both (field.bits-fits 32 (st .head .1 .0) (h .idlea)) (field.bits-fits 32 (st .head .1 .1 .0) (h .idleb))) (field.bits-fits 16 (st .head .1 .1 .1 .0) (h .payload)))
 
   rows-fit : each (rowFits s) rowWidth rowsStart (wordAt s countPlace) ≡ true
   rows-fit = rw rows-count (held-each rowWords rowWidth s (rowFits s) RowFits (field.row-fits s) rowsStart (p .table .rows) (fits .numbered .rows) (st .rows))
@@ -302,7 +302,7 @@ module _ (s : List ℕ) (b : Bytes s) where
       let t = tests s e in
       let h = head s e in
       record {
-        head = (h .version, (field.u32-same (wordAt s idleaPlace) (h .idlea), (field.u32-same (wordAt s idlebPlace) (h .idleb), (field.u16-same (wordAt s payloadPlace) (h .payload), (sym (gathered-length (rowAt s) rowWidth rowsStart (wordAt s countPlace)), tt)))));
+        head = (h .version, (field.bits-same 32 (wordAt s idleaPlace) (h .idlea), (field.bits-same 32 (wordAt s idlebPlace) (h .idleb), (field.bits-same 16 (wordAt s payloadPlace) (h .payload), (sym (gathered-length (rowAt s) rowWidth rowsStart (wordAt s countPlace)), tt)))));
         rows = each-held rowWords rowWidth s (rowFits s) (rowAt s) (field.row-same s) rowsStart (wordAt s countPlace) (t .1 .1 .0);
         numbers = (refl, (field.signed-same (wordAt s (clockStart + 1)) (word-small s b (clockStart + 1)), (field.signed-same (wordAt s (clockStart + 2)) (word-small s b (clockStart + 2)), tt)));
         a = queue-named queueaStart classPlaces (t .1 .1 .1 .0);

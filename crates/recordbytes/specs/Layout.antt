@@ -1,20 +1,20 @@
--- Where the parts of a port record stand: 512 words, each at its place.
+-- Where the parts of a port record stand: 704 words, each at its place.
 --   0            the layout's version
 --   1 to 4       idle slope of A, of B, best-effort payload, row count
 --   5 to 196     32 rows: class (0 A, 1 B), payload, deadline, pace: 0 and the period; or 1, the rate and the samples
 --   197 to 199   clock, credit of A, of B (two's complement)
---   200 to 296   queue of A: count, 32 frames: source, size, instant taken
---   297 to 393   queue of B
---   394 to 442   best-effort queue: count, 16 frames
---   443 to 506   32 last instants: mark (1 if there is one, else 0), instant
---   507 to 511   wire: 0 when free; 1, the frame and its bytes left
+--   200 to 392   queue of A: count, 64 frames: source, size, instant taken
+--   393 to 585   queue of B
+--   586 to 634   best-effort queue: count, 16 frames
+--   635 to 698   32 last instants: mark (1 if there is one, else 0), instant
+--   699 to 703   wire: 0 when free; 1, the frame and its bytes left
 use Prim.Native.Nat.{ℕ, _+_, _*_}
 use Rattle.table.specs.Limits.{mostRows}
 use Rattle.machine.specs.Limits.{classPlaces, bestPlaces}
 
 -- The version, one for each layout: above every idle slope, with which records began before they had one.
 abbrev pub version : ℕ
-version = 1000002
+version = 1000003
 
 -- The words of the header, a pace, a row, the clock with the credits, a frame, an instant and the wire. A queue has a count before its frames.
 abbrev pub headWidth : ℕ

@@ -1,7 +1,7 @@
 // A port record as bytes: where its words stand, and what bytes are read as. specs/Layout.antt has the same numbers.
 
 // The version of the layout.
-pub const VERSION: u64 = 1_000_002;
+pub const VERSION: u64 = 1_000_003;
 
 // The words of the header, a pace, a row, the clock with the credits, a frame, an instant and the wire. A queue has a count before its frames.
 pub const HEAD_WIDTH: usize = 5;
@@ -27,9 +27,9 @@ pub const CLOCK_START: usize = ROWS_START + ROW_WIDTH * table::ROWS;
 
 pub const QUEUEA_START: usize = CLOCK_START + NUMBERS_WIDTH;
 
-pub const QUEUEB_START: usize = QUEUEA_START + 1 + FRAME_WIDTH * machine::CLASS_PLACES;
+pub const QUEUEB_START: usize = QUEUEA_START + 1 + FRAME_WIDTH * table::CLASS_PLACES;
 
-pub const BEST_START: usize = QUEUEB_START + 1 + FRAME_WIDTH * machine::CLASS_PLACES;
+pub const BEST_START: usize = QUEUEB_START + 1 + FRAME_WIDTH * table::CLASS_PLACES;
 
 pub const LAST_START: usize = BEST_START + 1 + FRAME_WIDTH * machine::BEST_PLACES;
 

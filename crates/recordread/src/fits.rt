@@ -5,7 +5,6 @@ ghost use Rattle.table.specs.Limits.{mostRows};
 ghost use Rattle.recordbytes.specs.Layout.{rowsStart, lastStart, wireStart, paceWidth, rowWidth, frameWidth, lastWidth, recordWidth};
 ghost use Rattle.recordbytes.specs.Record.{headFits, paceFits, rowFits, frameFits, lastFits, wireFits, each, queueFits, isRecord};
 use machine::BEST_PLACES;
-use machine::CLASS_PLACES;
 use recordbytes::BEST_START;
 use recordbytes::COUNT_PLACE;
 use recordbytes::FRAME_WIDTH;
@@ -22,6 +21,7 @@ use recordbytes::ROW_WIDTH;
 use recordbytes::ROWS_START;
 use recordbytes::VERSION;
 use recordbytes::WIRE_START;
+use table::CLASS_PLACES;
 use table::ROWS;
 use words::words::word;
 

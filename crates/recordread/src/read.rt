@@ -15,7 +15,6 @@ ghost use Rattle.recordbytes.specs.Port.{tableFrom, portFrom, nothing, readReco
 use crate::fits::is_record;
 use machine::BEST_PLACES;
 use machine::BestQueue;
-use machine::CLASS_PLACES;
 use machine::Frame;
 use machine::Last;
 use machine::Port;
@@ -36,6 +35,7 @@ use recordbytes::ROW_WIDTH;
 use recordbytes::ROWS_START;
 use recordbytes::Reading;
 use recordbytes::WIRE_START;
+use table::CLASS_PLACES;
 use table::Class;
 use table::Header;
 use table::Pace;

@@ -13,7 +13,6 @@ ghost use Rattle.recordbytes.specs.Record.{classWord, signedWord, headWords, pa
 ghost use Rattle.recordwrite.specs.Written.{written};
 use machine::BEST_PLACES;
 use machine::BestQueue;
-use machine::CLASS_PLACES;
 use machine::Frame;
 use machine::Last;
 use machine::Port;
@@ -36,6 +35,7 @@ use recordbytes::ROW_WIDTH;
 use recordbytes::ROWS_START;
 use recordbytes::VERSION;
 use recordbytes::WIRE_START;
+use table::CLASS_PLACES;
 use table::Class;
 use table::Pace;
 use table::ROWS;

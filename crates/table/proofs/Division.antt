@@ -2,7 +2,7 @@
 use Prim.Native.Nat.{ℕ, zero, suc, _+_, _-_, _*_, _/_, _≤_, _<_}
 use mathlib.Core.Path.{_≡_, sym}
 use native.Mathlib.Omega.{arith}
-use native.Mathlib.Nat.{div-zero, div-eq-of-lt, div-lt-iff-lt-mul, lt-div-mul-add, le-mul-of-pos-right, suc-mul, add-div-right}
+use native.Mathlib.Nat.{div-zero, div-eq-of-lt, div-lt-iff-lt-mul, le-div-iff-mul-le, lt-div-mul-add, le-mul-of-pos-right, suc-mul, add-div-right}
 use Rattle.table.specs.Wire.{ceilDiv}
 
 pub ceil-by-zero : (n : ℕ) → ceilDiv n 0 ≡ 0
@@ -31,6 +31,11 @@ unfolding ceilDiv
 ceil-most n d q pos h =
     let g : n + (d - 1) < suc q * d = rw (suc-mul q d) (omega arith) in
     omega (arith, div-lt-iff-lt-mul {k = d} {x = n + (d - 1)} {y = suc q} pos .1 g)
+
+-- rounded up: above each q whose product with the divisor is below the number
+pub ceil-above : (n d q : ℕ) → 0 < d → q * d < n → q < ceilDiv n d
+unfolding ceilDiv
+ceil-above n d q pos h = le-div-iff-mul-le {k = d} {x = suc q} {y = n + (d - 1)} pos .1 (rw (suc-mul q d) (omega arith))
 
 pub ceil-le : (n d : ℕ) → ceilDiv n d ≤ n
 ceil-le n zero = rw (ceil-by-zero n) (omega arith)

@@ -15,10 +15,10 @@ use Rattle.table.specs.declared.Pace.the-variants.{Period, Rated}
 use Rattle.table.specs.declared.Row.{Row}
 use Rattle.table.specs.declared.Header.{Header}
 use Rattle.table.specs.declared.Table.{Table}
-use Rattle.table.specs.declared.Refusal.the-variants.{RowCount, Value, Slopes, Shares, Deadline}
+use Rattle.table.specs.declared.Refusal.the-variants.{RowCount, Value, Slopes, Shares, Deadline, Frames}
 use Rattle.table.specs.declared.Verdict.{Verdict}
 use Rattle.table.specs.declared.Verdict.the-variants.{Accepted, Refused}
-use Rattle.table.specs.Limits.{mostRows, mostSlope, mostPayload, leastSize, mostSize, leastPeriod, mostPeriod, leastRate, mostRate, mostSamples, second}
+use Rattle.table.specs.Limits.{mostRows, mostSlope, mostPayload, leastSize, mostSize, leastPeriod, mostPeriod, leastRate, mostRate, mostSamples, mostDeadline, second}
 use Rattle.table.specs.Wire.{wireSize, sizeFor, sizeOf, paced, periodOf}
 use Rattle.table.specs.Rows.{noRow, Contents, contents, rowAt, inUse, InUse, sameClass}
 use Rattle.table.specs.Checks.{Outcome, accepted, refused, outcomeOf, unless, passing, unlessRow, first}
@@ -27,7 +27,7 @@ use Rattle.table.proofs.Shape.{row-here}
 -- a table record's places and rows, and quotients rounded up
 pub use Rattle.table.proofs.Shape.{places, rows-length, rows-are, row-in-place, next-row, no-row}
 pub use Rattle.table.proofs.Search.{Passed, none-yet, fails-here, passes-here, all-passed}
-pub use Rattle.table.proofs.Division.{ceil-covers, ceil-most, ceil-le}
+pub use Rattle.table.proofs.Division.{ceil-covers, ceil-most, ceil-above, ceil-le}
 
 -- ---- outcomes: a refusal is no acceptance, and each verdict has an outcome of its own
 pub never : {n p : ℕ} {X : Type 0} → refused n p ≡ accepted → X
@@ -40,7 +40,7 @@ classBy (suc n) = B
 
 abbrev verdictBy : Outcome → Verdict
 verdictBy accepted = Accepted
-verdictBy (refused n p) = Refused (cond (eqb n 3) RowCount (cond (eqb n 5) (Value p) (cond (eqb n 8) Slopes (cond (eqb n 9) (Shares (classBy p)) (Deadline p)))))
+verdictBy (refused n p) = Refused (cond (eqb n 3) RowCount (cond (eqb n 5) (Value p) (cond (eqb n 8) Slopes (cond (eqb n 9) (Shares (classBy p)) (cond (eqb n 10) (Deadline p) (Frames (classBy p)))))))
 
 said : (v : Verdict) → verdictBy (outcomeOf v) ≡ v
 said Accepted = refl
@@ -50,6 +50,8 @@ said (Refused Slopes) = refl
 said (Refused (Shares A)) = refl
 said (Refused (Shares B)) = refl
 said (Refused (Deadline k)) = refl
+said (Refused (Frames A)) = refl
+said (Refused (Frames B)) = refl
 
 -- different verdicts have different numbers or places, so an outcome fixes the verdict
 pub same-verdict : (v w : Verdict) → outcomeOf v ≡ outcomeOf w → v ≡ w
@@ -201,15 +203,15 @@ pub period-range : (r : Row) → paceOk (r .pace) ≡ true → (leastPeriod ≤ 
 unfolding periodOf
 period-range r e = paced-range (r .pace) e
 
-pub row-in-range : (r : Row) → r .payload ≤ mostPayload → paceOk (r .pace) ≡ true → 1 ≤ r .deadline → r .deadline ≤ periodOf r → InRange r
+pub row-in-range : (r : Row) → r .payload ≤ mostPayload → paceOk (r .pace) ≡ true → 1 ≤ r .deadline → r .deadline ≤ mostDeadline → InRange r
 row-in-range r a p b c = record { payload = a; pace = p; shortest = period-range r p .0; longest = period-range r p .1; positive = b; deadline = c }
 
 in-range : (r : Row) → rowOk r ≡ true → InRange r
 unfolding rowOk
 in-range r e =
-    let p = and-true (leb (r .payload) mostPayload && paceOk (r .pace)) (deadlineOk r) e in
+    let p = and-true (leb (r .payload) mostPayload && paceOk (r .pace)) (deadlineOk (r .deadline)) e in
     let q = and-true (leb (r .payload) mostPayload) (paceOk (r .pace)) (p .0) in
-    let v = is-within 1 (periodOf r) (r .deadline) (p .1) in
+    let v = is-within 1 mostDeadline (r .deadline) (p .1) in
     row-in-range r (leb-true _ _ (q .0)) (q .1) (v .0) (v .1)
 
 row-passes : (r : Row) → InRange r → rowOk r ≡ true

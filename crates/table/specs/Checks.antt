@@ -8,7 +8,7 @@ use Rattle.table.specs.declared.Class.{Class}
 use Rattle.table.specs.declared.Class.the-variants.{A, B}
 use Rattle.table.specs.declared.Row.{Row}
 use Rattle.table.specs.declared.Refusal.{Refusal}
-use Rattle.table.specs.declared.Refusal.the-variants.{RowCount, Value, Slopes, Shares, Deadline}
+use Rattle.table.specs.declared.Refusal.the-variants.{RowCount, Value, Slopes, Shares, Deadline, Frames}
 use Rattle.table.specs.declared.Verdict.{Verdict}
 use Rattle.table.specs.declared.Verdict.the-variants.{Accepted, Refused}
 
@@ -24,6 +24,7 @@ numberOf (Value p) = 5
 numberOf Slopes = 8
 numberOf (Shares c) = 9
 numberOf (Deadline k) = 10
+numberOf (Frames c) = 20
 
 -- Class A is place 0, class B place 1.
 abbrev pub placeOfClass : Class → ℕ
@@ -36,6 +37,7 @@ placeOf (Value p) = p
 placeOf Slopes = 0
 placeOf (Shares c) = placeOfClass c
 placeOf (Deadline k) = k
+placeOf (Frames c) = placeOfClass c
 
 abbrev pub outcomeOf : Verdict → Outcome
 outcomeOf Accepted = accepted

@@ -35,6 +35,10 @@ leastPeriod = 84
 abbrev pub mostPeriod : ℕ
 mostPeriod = 1000000000
 
+-- Deadlines of 1 to 1,000,000,000 byte-times.
+abbrev pub mostDeadline : ℕ
+mostDeadline = 1000000000
+
 -- Sample rates of 1,000 to 200,000 Hz, and 1 to 255 samples a frame.
 abbrev pub leastRate : ℕ
 leastRate = 1000
@@ -52,6 +56,14 @@ second = 125000000
 -- The wire size of the largest payload that 16 bits can state, in range or not.
 abbrev pub anySize : ℕ
 anySize = 65577
+
+-- The period of the most samples at the lowest rate that a row's fields can state, in range or not.
+abbrev pub anyPeriod : ℕ
+anyPeriod = 31875000000
+
+-- The places of a class queue: the most frames that a class's rows together may have in the port.
+abbrev pub classPlaces : ℕ
+classPlaces = 64
 
 -- The bytes of a frame that are left when it is reported ended: none, the report comes with its last byte.
 abbrev pub leftAtReport : ℕ

@@ -9,7 +9,7 @@ use Rattle.table.specs.declared.Pace.{Pace}
 use Rattle.table.specs.declared.Pace.the-variants.{Period, Rated}
 use Rattle.table.specs.declared.Row.{Row}
 use Rattle.table.specs.declared.Header.{Header}
-use Rattle.table.specs.Limits.{mostRows, headerPlace, mostSlope, mostPayload, leastPeriod, mostPeriod, leastRate, mostRate, mostSamples}
+use Rattle.table.specs.Limits.{mostRows, headerPlace, mostSlope, mostPayload, leastPeriod, mostPeriod, leastRate, mostRate, mostSamples, mostDeadline}
 use Rattle.table.specs.Wire.{periodOf}
 use Rattle.table.specs.Rows.{Contents}
 use Rattle.table.specs.Checks.{Outcome, unless, unlessRow, first}
@@ -40,12 +40,12 @@ unfoldable pub paceOk : Pace → Bool
 paceOk (Period p) = periodOk p
 paceOk (Rated samples rate) = rateOk rate && samplesOk samples
 
--- Rule 5, a row. Its payload is 0 to 1500, its pace is in range, its deadline is 1 to its period.
-abbrev pub deadlineOk : Row → Bool
-deadlineOk r = within 1 (periodOf r) (r .deadline)
+-- Rule 5, a row. Its payload is 0 to 1500, its pace is in range, its deadline is 1 to 1,000,000,000 byte-times, whatever the period.
+abbrev pub deadlineOk : ℕ → Bool
+deadlineOk d = within 1 mostDeadline d
 
 unfoldable pub rowOk : Row → Bool
-rowOk r = (leb (r .payload) mostPayload && paceOk (r .pace)) && deadlineOk r
+rowOk r = (leb (r .payload) mostPayload && paceOk (r .pace)) && deadlineOk (r .deadline)
 
 -- 3, row count not 1 to 32. 5, a value out of range, place its row, or 32 for a header value (header first).
 abbrev pub rangeChecks : Contents → List Outcome
@@ -66,7 +66,7 @@ pub record InRange (r : Row) : Type 0 where
   pub shortest : leastPeriod ≤ periodOf r
   pub longest : periodOf r ≤ mostPeriod
   pub positive : 1 ≤ r .deadline
-  pub deadline : r .deadline ≤ periodOf r
+  pub deadline : r .deadline ≤ mostDeadline
 
 -- A table in range.
 pub record Ranges (t : Contents) : Type 0 where

@@ -9,6 +9,9 @@ pub mod wire;
 // The places of a table: the most rows that it has.
 pub const ROWS: usize = 32;
 
+// The places of a class queue: the most frames that a class's rows together may have in the port.
+pub const CLASS_PLACES: usize = 64;
+
 // A shaped class.
 pub enum Class {
     A,
@@ -51,6 +54,7 @@ pub enum Refusal {
     Slopes,
     Shares(Class),
     Deadline(usize),
+    Frames(Class),
 }
 
 // The answer to a table: accepted, or refused and why.

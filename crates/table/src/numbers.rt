@@ -7,7 +7,7 @@ use crate::Refusal;
 
 pub fn number(r: Refusal) -> u64
     ensures { λ n. ⌜ n ≡ numberOf r ⌝ }
-    ensures small { λ n. ⌜ n ≤ 10 ⌝ }
+    ensures small { λ n. ⌜ n ≤ 20 ⌝ }
 {
     match r {
         Refusal::RowCount => 3,
@@ -15,6 +15,7 @@ pub fn number(r: Refusal) -> u64
         Refusal::Slopes => 8,
         Refusal::Shares(_) => 9,
         Refusal::Deadline(_) => 10,
+        Refusal::Frames(_) => 20,
     }
 }
 
@@ -36,5 +37,6 @@ pub fn place(r: Refusal) -> usize
         Refusal::Slopes => 0,
         Refusal::Shares(class) => class_place(class),
         Refusal::Deadline(row) => row,
+        Refusal::Frames(class) => class_place(class),
     }
 }

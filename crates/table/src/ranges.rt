@@ -13,7 +13,6 @@ use crate::Refusal;
 use crate::Row;
 use crate::Table;
 use crate::Verdict;
-use crate::wire::period;
 
 // The place of a header value where rows are places.
 const HEADER_PLACE: usize = 32;
@@ -28,6 +27,9 @@ pub const MOST_PAYLOAD: u16 = 1500;
 const LEAST_PERIOD: u32 = 84;
 
 const MOST_PERIOD: u32 = 1_000_000_000;
+
+// The longest deadline of a row.
+const MOST_DEADLINE: u32 = 1_000_000_000;
 
 // The lowest and the highest sample rate.
 const LEAST_RATE: u32 = 1000;
@@ -92,13 +94,10 @@ fn pace_ok(pace: Pace) -> bool
     }
 }
 
-pub fn deadline_ok(row: Row) -> bool
-    ensures { λ r. ⌜ r ≡ deadlineOk row ⌝ }
+pub fn deadline_ok(deadline: u32) -> bool
+    ensures { λ r. ⌜ r ≡ deadlineOk deadline ⌝ }
 {
-    if row.deadline < 1 {
-        return false;
-    }
-    row.deadline as u64 <= period(row)
+    is_within(1, MOST_DEADLINE, deadline)
 }
 
 fn row_ok(row: Row) -> bool
@@ -111,7 +110,7 @@ fn row_ok(row: Row) -> bool
     if !pace_ok(pace) {
         return false;
     }
-    deadline_ok(row)
+    deadline_ok(row.deadline)
 }
 
 // How many rows are in range before the first that is not.

@@ -2,7 +2,7 @@
 ghost use mathlib.Core.Path.{_≡_};
 ghost use Prim.Native.Nat.{_*_, _≤_};
 ghost use Rattle.table.specs.declared.Pace.{Pace};
-ghost use Rattle.table.specs.Limits.{D, anySize};
+ghost use Rattle.table.specs.Limits.{D, anySize, anyPeriod};
 ghost use Rattle.table.specs.Wire.{wireSize, sizeFor, sizeOf, paced, periodOf, shareOf};
 use crate::Pace;
 use crate::Row;
@@ -49,6 +49,7 @@ pub fn size(row: Row) -> u64
 // The byte-times in which so many samples come at a rate, rounded down; 0 for a rate of 0, which no table may have.
 fn sampled(samples: u8, rate: u32) -> u64
     ensures { λ r. ⌜ r ≡ paced (Pace.Rated samples rate) ⌝ }
+    ensures small { λ r. ⌜ r ≤ anyPeriod ⌝ }
 {
     if rate == 0 {
         return 0;
@@ -56,13 +57,21 @@ fn sampled(samples: u8, rate: u32) -> u64
     samples as u64 * SECOND / rate as u64
 }
 
+fn stated(p: u32) -> u64
+    ensures { λ r. ⌜ r ≡ paced (Pace.Period p) ⌝ }
+    ensures small { λ r. ⌜ r ≤ anyPeriod ⌝ }
+{
+    p as u64
+}
+
 // P, a row's period.
 pub fn period(row: Row) -> u64
     ensures { λ r. ⌜ r ≡ periodOf row ⌝ }
+    ensures small { λ r. ⌜ r ≤ anyPeriod ⌝ }
 {
     let pace = row.pace;
     match pace {
-        Pace::Period(p) => p as u64,
+        Pace::Period(p) => stated(p),
         Pace::Rated(samples, rate) => sampled(samples, rate),
     }
 }

@@ -11,7 +11,7 @@ use Rattle.table.specs.declared.Class.{Class}
 use Rattle.table.specs.declared.Pace.{Pace}
 use Rattle.table.specs.declared.Pace.the-variants as paces
 use Rattle.table.specs.declared.Row.{Row}
-use Rattle.table.specs.Limits.{mostPayload, leastPeriod, mostPeriod, leastRate, mostRate, mostSamples}
+use Rattle.table.specs.Limits.{mostPayload, leastPeriod, mostPeriod, leastRate, mostRate, mostSamples, mostDeadline}
 use Rattle.table.specs.Wire.{periodOf}
 use Rattle.table.specs.Checks.{accepted}
 use Rattle.table.specs.Ranges.{periodOk, rateOk, samplesOk, paceOk, InRange}
@@ -67,7 +67,7 @@ fine-in r g Samples e = samples-fine (r .pace) (g .pace) e
 fits : (r : Row) → InRange r → (f : Field) → valueOf f r < below (widthOf f)
 fits r g Payload = omega (arith, g .payload)
 fits r g Period = omega (arith, stated-most (r .pace) (g .pace))
-fits r g Deadline = omega (arith, g .deadline, g .longest)
+fits r g Deadline = omega (arith, g .deadline)
 fits r g Rate = omega (arith, rate-most (r .pace) (g .pace))
 fits r g Samples = omega (arith, samples-most (r .pace) (g .pace))
 
@@ -200,9 +200,9 @@ payload-default : (r : Row) → defaultPayload r ≤ mostPayload
 unfolding defaultPayload
 payload-default r = omega arith
 
-deadline-default : (r : Row) → paceOk (r .pace) ≡ true → (1 ≤ defaultDeadline r) × (defaultDeadline r ≤ periodOf r)
+deadline-default : (r : Row) → paceOk (r .pace) ≡ true → (1 ≤ defaultDeadline r) × (defaultDeadline r ≤ mostDeadline)
 unfolding defaultDeadline
-deadline-default r e = (omega (arith, law.period-range r e .0), omega arith)
+deadline-default r e = (omega (arith, law.period-range r e .0), omega (arith, law.period-range r e .1))
 
 -- beside a period's bit no rate's stands
 no-rate : (p q : Bool) → (p && q) ≡ false → p ≡ true → q ≡ false
@@ -257,11 +257,11 @@ module _ (s : List ℕ) (x : RowRead s) where
   unfolding rowFrom
   pace-range = pace-in-range s x
 
-  deadline-range : (1 ≤ r .deadline) × (r .deadline ≤ periodOf r)
+  deadline-range : (1 ≤ r .deadline) × (r .deadline ≤ mostDeadline)
   deadline-range = go (bitOf Deadline m) refl
     where
-      go : (b : Bool) → bitOf Deadline m ≡ b → (1 ≤ r .deadline) × (r .deadline ≤ periodOf r)
-      go true e = law.is-within 1 (periodOf r) (r .deadline) (x .fit Deadline e .ok)
+      go : (b : Bool) → bitOf Deadline m ≡ b → (1 ≤ r .deadline) × (r .deadline ≤ mostDeadline)
+      go true e = law.is-within 1 mostDeadline (r .deadline) (x .fit Deadline e .ok)
       go false e = let y = deadline-default r pace-range in (omega (arith, y .0, deadline-unstated e), omega (arith, y .1, deadline-unstated e))
 
   in-range : InRange r

@@ -9,12 +9,19 @@ use lib.ListN.{length}
 use borrow.Author.Tests.{eqb-true, eq-eqb, leb-true, le-leb, not-true}
 use Rattle.table.specs.declared.Class.{Class}
 use Rattle.table.specs.declared.Class.the-variants.{A, B}
+use Rattle.table.specs.declared.Row.{Row}
+use Rattle.table.specs.Wire.{periodOf}
 use Rattle.table.specs.Checks.{Outcome, accepted, refused, first}
 use Rattle.table.specs.Ranges.{periodOk, paceOk}
-use Rattle.tablefile.specs.Layout.{Field, Payload, Period, Deadline, Rate, Samples, widthOf, periodFor, defaultPeriod, usual, bitOf, bits4to6, twoPaces, classOf, sizeIn, placeOf, rowSize}
+use Rattle.tablefile.specs.Layout.{Field, Payload, Period, Deadline, Rate, Samples, widthOf, periodFor, defaultPeriod, defaultDeadline, usual, bitOf, bits4to6, twoPaces, classOf, sizeIn, placeOf, rowSize}
 use Rattle.tablefile.specs.Reading.{mapOf, pacedFrom, rowFrom, fine, presence, present, judgement, judged, fieldChecks, rowChecks, row}
 use Rattle.table.proofs.Laws as law
 use Rattle.tablefile.proofs.Sizes.{bit-shared}
+
+-- a default deadline goes by the pace, whatever deadline stands beside it
+pub default-by-pace : (r : Row) (d : ℕ) → defaultDeadline r ≡ defaultDeadline (record { class = r .class; payload = r .payload; pace = r .pace; deadline = d })
+unfolding defaultDeadline periodOf
+default-by-pace r d = refl
 
 -- ---- lists of checks
 pub accept-first : (xs : List Outcome) → law.Accept xs → first xs ≡ accepted

@@ -49,6 +49,7 @@ not-17 (refusals.Value p) e = omega (arith, e)
 not-17 refusals.Slopes e = omega (arith, e)
 not-17 (refusals.Shares c) e = omega (arith, e)
 not-17 (refusals.Deadline k) e = omega (arith, e)
+not-17 (refusals.Frames c) e = omega (arith, e)
 
 abbrev refusing : Verdict → Writing
 refusing verdicts.Accepted = writings.TooShort

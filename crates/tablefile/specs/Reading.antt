@@ -98,11 +98,11 @@ pacedFrom s = withPace s (withPayload s (blank (classOf (mapOf s))))
 unfoldable pub rowFrom : List ℕ → Row
 rowFrom s = withDeadline s (pacedFrom s)
 
--- A field's values: payload 0 to 1500, period 84 to 1,000,000,000 byte-times, deadline 1 to the period, rate 1,000 to 200,000 Hz, samples 1 to 255.
+-- A field's values: payload 0 to 1500, period 84 to 1,000,000,000 byte-times, deadline 1 to 1,000,000,000 byte-times, rate 1,000 to 200,000 Hz, samples 1 to 255.
 abbrev pub fine : Field → Row → Bool
 fine Payload r = leb (valueOf Payload r) mostPayload
 fine Period r = periodOk (valueOf Period r)
-fine Deadline r = deadlineOk r
+fine Deadline r = deadlineOk (valueOf Deadline r)
 fine Rate r = rateOk (valueOf Rate r)
 fine Samples r = samplesOk (valueOf Samples r)
 
@@ -136,7 +136,7 @@ fieldChecks f s at = present f s at ∷ judged f s at ∷ []
 abbrev pub mapChecks : List ℕ → ℕ → List Outcome
 mapChecks s at = unless (leb 1 (length s)) 1 at ∷ unless (reservedClear (mapOf s)) 4 at ∷ unless (not (twoPaces (mapOf s))) 19 at ∷ []
 
--- A row, in file order; but the deadline is judged last, since its range and its default go by the pace. The row stands at `at`, and places count from the start of the file.
+-- A row, in file order; but the deadline is judged last, since its default goes by the pace. The row stands at `at`, and places count from the start of the file.
 abbrev pub rowChecks : List ℕ → ℕ → List Outcome
 rowChecks s at =
     mapChecks s at

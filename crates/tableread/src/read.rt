@@ -267,13 +267,12 @@ fn deadline_fault(s: &[u8], at: usize, map: u8, paced: Row) -> Reading
     ensures { λ r. ⌜ outcomeOf r ≡ judged Deadline (now (s .entry)) at ⌝ }
 {
     let place = deadline_place(map);
-    let mut row = paced;
-    row.deadline = u32_at(s, place);
-    let usual = row.deadline as u64 == default_deadline(row);
+    let deadline = u32_at(s, place);
+    let usual = deadline as u64 == default_deadline(paced);
     field_fault(
         deadline_stands(map),
         true,
-        deadline_ok(row),
+        deadline_ok(deadline),
         usual,
         at + place,
     )

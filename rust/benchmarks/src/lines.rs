@@ -2,11 +2,14 @@
 
 use std::hint::black_box;
 
+use cases::crowds;
+use cases::hunt::{Hunt, Way};
+use cases::ports::{full, full_reversed};
 use ithumeco::BOUNDS_SIZE;
-use simulator::Call;
+use simulator::{file_of, Call, Port};
 
 use crate::clock::{compare, Compared};
-use crate::lists::{all_offered, called, replayed, simulate};
+use crate::lists::{all_offered, called, called_on, replayed, simulate, up_to_the_most};
 use crate::tables::{of_32_rows, of_long_waits, OF_3_ROWS};
 
 /// Calls that are made again and again.
@@ -193,6 +196,87 @@ pub fn calls_on_bytes() -> [(&'static str, Compared<3>); 3] {
             "offer and advance of an 84-byte best-effort frame, 3 rows",
             &OF_3_ROWS,
             SMALL_FRAME,
+        ),
+    ]
+}
+
+/// Calls in a list that has led to as many frames of a row as lists were found
+/// to lead to.
+pub fn calls_behind_many_frames() -> [(&'static str, Compared<2>); 2] {
+    const TIMES: usize = 20_000;
+    let table = crowds::with_two_neighbours();
+    let (row, way, again) = (3, Way::Blocked, Some(0));
+    let (list, most) = up_to_the_most(&table, Hunt { row, way, again });
+    assert_eq!(most, 58, "the frames that the lines' names speak of");
+    let line = |name, call| {
+        let list = [&list[..], &[call].repeat(TIMES)].concat();
+        (name, replayed(&file_of(&table), &list, TIMES as u64))
+    };
+    [
+        line(
+            "advance by 0 in a list, 4 rows, one of them with 58 frames waiting",
+            NOTHING[0],
+        ),
+        line(
+            "offer refused as early in a list, 4 rows, one of them with 58 frames waiting",
+            Call::Offer(3, 42),
+        ),
+    ]
+}
+
+/// Calls on a record's bytes with as many frames in the port as there may be,
+/// beside the simulator's on its own port, and the same on a fresh port.
+pub fn calls_on_full_ports() -> [(&'static str, Compared<2>); 9] {
+    const TIMES: u64 = 20_000;
+    let line = |name, port: &Port, call| (name, called_on(port, call, TIMES));
+    let nothing = Call::Advance(0);
+    let (pairs, mixed) = (crowds::two_of_each(), crowds::with_two_neighbours());
+    let both = crowds::full_classes();
+    [
+        line(
+            "advance by 0 on a record, 32 rows, no frames",
+            &Port::fresh(pairs.clone()),
+            nothing,
+        ),
+        line(
+            "advance by 0 on a record, 32 rows of two frames, in order",
+            &full(pairs.clone()),
+            nothing,
+        ),
+        line(
+            "advance by 0 on a record, 32 rows of two frames, out of order",
+            &full_reversed(pairs.clone()),
+            nothing,
+        ),
+        line(
+            "offer refused as early on a record, 32 rows of two frames, in order",
+            &full(pairs),
+            Call::Offer(31, 42),
+        ),
+        line(
+            "advance by 0 on a record, 4 rows, no frames",
+            &Port::fresh(mixed.clone()),
+            nothing,
+        ),
+        line(
+            "advance by 0 on a record, 4 rows, one of them with 62 frames, in order",
+            &full(mixed.clone()),
+            nothing,
+        ),
+        line(
+            "advance by 0 on a record, 4 rows, one of them with 62 frames, out of order",
+            &full_reversed(mixed.clone()),
+            nothing,
+        ),
+        line(
+            "offer refused as early on a record, 4 rows, one of them with 62 frames, in order",
+            &full(mixed),
+            Call::Offer(3, 42),
+        ),
+        line(
+            "advance by 0 on a record, 7 rows, 64 frames in each class, out of order",
+            &full_reversed(both),
+            nothing,
         ),
     ]
 }

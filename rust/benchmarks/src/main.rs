@@ -33,6 +33,14 @@ fn main() -> ExitCode {
         let [_, ratio, of_list] = compared.ratios;
         println!("| {name} | {ours:.2} | {theirs:.2} | {ratio:.3} | {listed:.2} | {of_list:.3} |");
     }
+    println!();
+    println!("| one call beside many frames of a class | ns | simulator's ns | ratio |");
+    println!("|---|---:|---:|---:|");
+    let crowded = lines::calls_behind_many_frames().into_iter();
+    for (name, compared) in crowded.chain(lines::calls_on_full_ports()) {
+        let ([ours, theirs], [_, ratio]) = (compared.ns, compared.ratios);
+        println!("| {name} | {ours:.2} | {theirs:.2} | {ratio:.3} |");
+    }
     println!("\n{missed} missed");
     ExitCode::from(u8::from(missed > 0))
 }

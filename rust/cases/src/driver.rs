@@ -2,6 +2,7 @@
 
 use simulator::port::MOST_ADVANCE;
 use simulator::refusal::refuse;
+use simulator::table::MOST_IN_CLASS;
 use simulator::{Advance, Call, Port, Refusal, Table, Wire};
 
 /// More calls than any list has.
@@ -26,6 +27,9 @@ impl Driver {
     pub fn make(&mut self, call: Call) {
         let answer = self.port.make(call);
         assert_ne!(answer, refuse(18, 0), "no list breaks a port");
+        for queue in [&self.port.queue_a, &self.port.queue_b] {
+            assert!(queue.len() as u64 <= MOST_IN_CLASS, "a class queue is full");
+        }
         assert!(self.calls.len() < MOST_CALLS, "a list without an end");
         self.calls.push(call);
         self.answers.push(answer);

@@ -1,9 +1,12 @@
 //! What the tests and benchmarks are made of: tables, files, lines, lists of
-//! calls and port records from a deterministic generator, and the watch that
-//! holds a list with its answers to document 01's demand 3.
+//! calls and port records from a deterministic generator, hunts for a row's
+//! oldest frame, and the watch that holds a list with its answers to document
+//! 01's demand 3.
 
+pub mod crowds;
 pub mod driver;
 pub mod files;
+pub mod hunt;
 pub mod lines;
 pub mod ports;
 pub mod random;

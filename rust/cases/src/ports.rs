@@ -2,9 +2,9 @@
 
 use std::collections::VecDeque;
 
-use simulator::port::LAST_CLOCK;
+use simulator::port::{LAST_CLOCK, LEAST_SIZE, MOST_BEST};
 use simulator::table::{accept, Accepted, MOST_ROWS};
-use simulator::{Call, Frame, Mark, Port, Wire};
+use simulator::{Call, Class, Frame, Mark, Port, Table, Wire};
 
 use crate::driver::Driver;
 use crate::random::Random;
@@ -18,6 +18,126 @@ pub fn reached(random: &mut Random) -> Port {
     random.pick(&TRAFFIC)(random, &mut driver, count);
     driver.make(Call::Advance(random.between(0, 300)));
     driver.port
+}
+
+/// A sound record of a table, made up and not led to: every row has as many
+/// frames as it may have, the newest taken now, in the order of their instants.
+pub fn full(table: Table) -> Port {
+    let plan = accept(&table).expect("an accepted table");
+    let mut port = Port::fresh(table);
+    port.clock = 1 << 32;
+    for (place, row) in port.table.rows.iter().enumerate() {
+        let queue = match row.class {
+            Class::A => &mut port.queue_a,
+            Class::B => &mut port.queue_b,
+        };
+        queue.extend((0..plan.most[place]).map(|behind| Frame {
+            mark: Mark::Row(place),
+            size: row.size(),
+            instant: port.clock - behind * row.period(),
+        }));
+        port.last[place] = Some(port.clock);
+    }
+    for queue in [&mut port.queue_a, &mut port.queue_b] {
+        queue.make_contiguous().sort_by_key(|frame| frame.instant);
+    }
+    port
+}
+
+/// The same, with the queues the other way round.
+pub fn full_reversed(table: Table) -> Port {
+    let mut port = full(table);
+    for queue in [&mut port.queue_a, &mut port.queue_b] {
+        queue.make_contiguous().reverse();
+    }
+    port
+}
+
+/// A sound record of a table, made up and not led to: rows have as many frames
+/// as they may, or fewer, in any order and a period apart or more.
+pub fn made_up(random: &mut Random, table: Table) -> Port {
+    let plan = accept(&table).expect("an accepted table");
+    let mut port = Port::fresh(table);
+    port.clock = random.between(1 << 31, 1 << 33);
+    for (class, credit) in [(&plan.a, &mut port.credit_a), (&plan.b, &mut port.credit_b)] {
+        let (lowest, highest) = class.credit_range().into_inner();
+        *credit = lowest + random.between(0, (highest - lowest) as u64) as i64;
+    }
+    let fill = random.pick(&[Fill::Full, Fill::Full, Fill::Some]);
+    for row in 0..port.table.rows.len() {
+        put_frames(random, &mut port, &plan, row, fill);
+    }
+    for _ in 0..random.below(MOST_BEST + 1) {
+        let size = random.between(LEAST_SIZE, port.table.best_size());
+        let instant = port.clock - random.between(0, 1 << 31);
+        port.queue_best.push_back(Frame {
+            mark: Mark::BestEffort,
+            size,
+            instant,
+        });
+    }
+    if random.one_in(2) {
+        let queues = [&mut port.queue_a, &mut port.queue_b, &mut port.queue_best];
+        for queue in queues {
+            random.shuffle(queue.make_contiguous());
+        }
+    }
+    if random.one_in(2) {
+        let frame = any_queue(random, &mut port).pop_front();
+        port.wire = frame.map_or(Wire::Free, |frame| {
+            Wire::Sending(frame, random.between(1, frame.size))
+        });
+    }
+    port
+}
+
+/// How many frames a row gets.
+#[derive(Clone, Copy, PartialEq, Eq)]
+enum Fill {
+    /// As many as it may have.
+    Full,
+    /// Any count of them.
+    Some,
+}
+
+/// Puts frames of a row into its queue, the newest at the row's last instant.
+fn put_frames(random: &mut Random, port: &mut Port, plan: &Accepted, place: usize, fill: Fill) {
+    let row = port.table.rows[place];
+    let (most, bound) = (plan.most[place], plan.bounds[place]);
+    let count = match fill {
+        Fill::Full => most,
+        Fill::Some => random.between(0, most),
+    };
+    // What is left of the bound when the frames are a period apart, in parts
+    // between them and behind the newest.
+    let least = count.saturating_sub(1) * row.period();
+    let mut slack = match random.below(3) {
+        0 => 0,
+        1 => bound - 1 - least,
+        _ => random.between(0, bound - 1 - least),
+    };
+    let mut instant = port.clock - least - slack;
+    for behind in (0..count).rev() {
+        let frame = Frame {
+            mark: Mark::Row(place),
+            size: random.between(LEAST_SIZE, row.size()),
+            instant,
+        };
+        match row.class {
+            Class::A => port.queue_a.push_back(frame),
+            Class::B => port.queue_b.push_back(frame),
+        }
+        port.last[place] = Some(instant);
+        if behind > 0 {
+            let part = random.between(0, slack);
+            let wait = random.pick(&[0, slack, part]);
+            slack -= wait;
+            instant += row.period() + wait;
+        }
+    }
+    if count == 0 && random.one_in(2) {
+        port.last[place] = Some(port.clock - random.between(0, 1 << 31));
+    }
 }
 
 /// The same port at a later clock.
@@ -39,7 +159,7 @@ pub fn change(random: &mut Random, port: &mut Port) {
     let Ok(plan) = accept(&port.table) else {
         return;
     };
-    match random.below(12) {
+    match random.below(16) {
         0 => tables::change(random, &mut port.table),
         1 => {
             let next = port.clock.wrapping_add(1);
@@ -57,6 +177,11 @@ pub fn change(random: &mut Random, port: &mut Port) {
             put(random, port, moved);
         }
         7 => drop(any_queue(random, port).pop_back()),
+        8 => {
+            let queue = any_queue(random, port);
+            random.shuffle(queue.make_contiguous());
+        }
+        9..=11 => add_frame(random, port),
         _ => change_frame(random, port, &plan),
     }
 }
@@ -126,6 +251,31 @@ fn put(random: &mut Random, port: &mut Port, frame: Option<Frame>) {
     }
 }
 
+/// Adds a frame of a row that has one in the port, about a period older or
+/// newer, and at times makes its instant the row's last.
+fn add_frame(random: &mut Random, port: &mut Port) {
+    let Some(frame) = any_frame(random, port) else {
+        return;
+    };
+    let Mark::Row(place) = frame.mark else {
+        return;
+    };
+    let Some(row) = port.table.rows.get(place).copied() else {
+        return;
+    };
+    let apart = row.period().wrapping_add(random.pick(&[0, 1, u64::MAX]));
+    let older = frame.instant.wrapping_sub(apart);
+    let instant = random.pick(&[older, frame.instant.wrapping_add(apart)]);
+    let added = Frame { instant, ..frame };
+    match row.class {
+        Class::A => port.queue_a.push_back(added),
+        Class::B => port.queue_b.push_back(added),
+    }
+    if random.one_in(2) {
+        port.last[place] = Some(instant);
+    }
+}
+
 /// Changes a frame, and at times its row's last instant with it.
 fn change_frame(random: &mut Random, port: &mut Port, plan: &Accepted) {
     let count = frames(port).len();
@@ -163,12 +313,27 @@ fn any_mark(random: &mut Random, port: &Port) -> Mark {
     }
 }
 
-/// Instants about the clock, the frame's own and the end of its row's bound.
+/// Instants about the clock, the frame's own, a period from its row's last and
+/// the end of its row's bound.
 fn any_instant(random: &mut Random, port: &Port, plan: &Accepted, frame: Frame) -> u64 {
     let age = match frame.mark {
         Mark::Row(row) => plan.bounds.get(row).copied().unwrap_or(0),
         Mark::BestEffort => port.clock,
     };
-    let instant = random.pick(&[port.clock, frame.instant, port.clock.wrapping_sub(age)]);
+    let apart = match frame.mark {
+        Mark::Row(row) => port.table.rows.get(row).map_or(0, |row| row.period()),
+        Mark::BestEffort => 0,
+    };
+    let last = match frame.mark {
+        Mark::Row(row) => port.last.get(row).copied().flatten(),
+        Mark::BestEffort => None,
+    };
+    let last = last.unwrap_or(frame.instant);
+    let instant = random.pick(&[
+        port.clock,
+        frame.instant,
+        port.clock.wrapping_sub(age),
+        last.wrapping_sub(apart),
+    ]);
     instant.wrapping_add(random.pick(&[0, 1, u64::MAX]))
 }

@@ -4,15 +4,18 @@ use std::iter;
 
 use simulator::file::{default_period, DEFAULT_PAYLOAD};
 use simulator::table::{
-    D, MOST_IDLE_TOGETHER, MOST_ROWS, PAYLOAD_RANGE, PERIOD_RANGE, RATE_RANGE, SAMPLES_RANGE,
-    SECOND,
+    accept, D, DEADLINE_RANGE, MOST_IDLE_TOGETHER, MOST_IN_CLASS, MOST_ROWS, PAYLOAD_RANGE,
+    PERIOD_RANGE, RATE_RANGE, SAMPLES_RANGE, SECOND,
 };
-use simulator::{bounds, wire_size, Class, Pace, Row, Table};
+use simulator::{bounds, open, wire_size, Class, Pace, Row, Table};
 
 use crate::random::Random;
 
 /// The longest period.
 const LONGEST: u64 = *PERIOD_RANGE.end();
+
+/// The longest deadline.
+const LATEST: u64 = *DEADLINE_RANGE.end();
 
 /// The largest payload.
 const LARGEST: u64 = *PAYLOAD_RANGE.end();
@@ -62,22 +65,66 @@ pub fn full(random: &mut Random) -> Table {
     first_accepted(|| proposed(random), |table| table.rows.len() == MOST_ROWS)
 }
 
+/// An accepted table in which a row may have several frames in the port, its
+/// periods at most `longest`.
+pub fn crowded(random: &mut Random, longest: u64) -> Table {
+    let several = |table: &Table| most_of_any(table) > 1;
+    let short = |table: &Table| table.rows.iter().all(|row| row.period() <= longest);
+    first_accepted(
+        || proposed_with(random, Periods::Short),
+        |table| several(table) && short(table),
+    )
+}
+
+/// The most frames that any row of an accepted table may have in the port.
+fn most_of_any(table: &Table) -> u64 {
+    let most = accept(table).map(|plan| plan.most);
+    most.map_or(0, |most| most.into_iter().max().unwrap_or(0))
+}
+
+/// A table that opening refuses with 20.
+pub fn overfull(random: &mut Random) -> Table {
+    first(
+        || proposed_with(random, Periods::Short),
+        |table| open(table).is_err_and(|refusal| refusal.number == 20),
+    )
+}
+
 /// The first of many proposals that opening accepts and that is as wanted.
 fn first_accepted(propose: impl FnMut() -> Table, wanted: impl Fn(&Table) -> bool) -> Table {
+    first(propose, |table| bounds(table).is_ok() && wanted(table))
+}
+
+/// The first of many proposals that is as wanted.
+fn first(propose: impl FnMut() -> Table, wanted: impl Fn(&Table) -> bool) -> Table {
     let mut proposals = iter::repeat_with(propose).take(MOST_PROPOSALS);
-    let found = proposals.find(|table| bounds(table).is_ok() && wanted(table));
-    found.expect("a proposal that opening accepts")
+    proposals
+        .find(wanted)
+        .expect("a proposal that is as wanted")
 }
 
 /// An accepted table in which most rows are of one class, of one size and
 /// with a high slope: the part of its bounds that no traffic reaches is small.
 pub fn tight(random: &mut Random, class: Class) -> Table {
-    first_accepted(|| proposed_tight(random, class), |_| true)
+    let propose = |random: &mut Random| {
+        let most = random.between(20, 28);
+        proposed_tight(random, class, most, Periods::Long)
+    };
+    first_accepted(|| propose(random), |_| true)
 }
 
-fn proposed_tight(random: &mut Random, class: Class) -> Table {
+/// The same, with any count of rows and with periods so short that a row may
+/// have several frames in the port.
+pub fn tight_crowded(random: &mut Random, class: Class) -> Table {
+    let propose = |random: &mut Random| {
+        let most = random.between(1, 28);
+        proposed_tight(random, class, most, Periods::Shortest)
+    };
+    first_accepted(|| propose(random), |table| most_of_any(table) > 1)
+}
+
+fn proposed_tight(random: &mut Random, class: Class, most: u64, periods: Periods) -> Table {
     let others = random.between(0, 4);
-    let most = random.between(20, 28);
     let idle = random.between(500_000, 700_000);
     let slack = if others == 0 { 0 } else { 750_000 - idle };
     let (counts, idles) = match class {
@@ -89,11 +136,16 @@ fn proposed_tight(random: &mut Random, class: Class) -> Table {
     for row in table.rows.iter_mut().filter(|row| row.class == class) {
         row.payload = size;
     }
-    fit(random, &mut table, false);
+    fit(random, &mut table, periods);
     table
 }
 
 fn proposed(random: &mut Random) -> Table {
+    let periods = random.pick(&[Periods::Stretched, Periods::Short]);
+    proposed_with(random, periods)
+}
+
+fn proposed_with(random: &mut Random, periods: Periods) -> Table {
     let counts = counts(random);
     let idles = slopes(random, counts);
     let mut table = unfitted(random, counts, idles);
@@ -101,8 +153,39 @@ fn proposed(random: &mut Random) -> Table {
         let same = payload(random, LARGEST);
         table.rows.iter_mut().for_each(|row| row.payload = same);
     }
-    fit(random, &mut table, true);
+    fit(random, &mut table, periods);
     table
+}
+
+/// How the periods of a table are chosen.
+#[derive(Clone, Copy)]
+enum Periods {
+    /// No shorter than the bound: a row has one frame in the port.
+    Long,
+    /// The same, some of them longer, up to the longest there is.
+    Stretched,
+    /// From the shortest that the slope lets pass on.
+    Short,
+    /// The shortest that the slope lets pass.
+    Shortest,
+}
+
+impl Periods {
+    /// A period of a row with a bound, `least` being the shortest by its part
+    /// of the slope.
+    fn of(self, random: &mut Random, least: u64, bound: u64) -> u64 {
+        let long = least.max(bound);
+        match (self, random.below(16)) {
+            (Periods::Stretched, 0) => LONGEST.max(long),
+            (Periods::Stretched, 1..=4) => long + random.between(0, long),
+            (Periods::Short, 0..=3) => long + random.between(0, long),
+            (Periods::Short, 4..=7) => least,
+            (Periods::Short, 8..=11) => least.max(bound.div_ceil(random.between(1, 8))),
+            (Periods::Short, _) => random.between(least, long),
+            (Periods::Shortest, _) => least,
+            (Periods::Long | Periods::Stretched, _) => long,
+        }
+    }
 }
 
 /// How many rows of A and of B.
@@ -163,7 +246,7 @@ fn unfitted(random: &mut Random, counts: (u64, u64), idles: (u64, u64)) -> Table
 }
 
 /// Periods by parts of the slope, and deadlines from the bound on.
-fn fit(random: &mut Random, table: &mut Table, stretched: bool) {
+fn fit(random: &mut Random, table: &mut Table, periods: Periods) {
     let figures = [table.figures(Class::A), table.figures(Class::B)];
     let weights: Vec<u64> = table.rows.iter().map(|_| random.between(1, 4)).collect();
     let total = |class| -> u64 {
@@ -177,27 +260,36 @@ fn fit(random: &mut Random, table: &mut Table, stretched: bool) {
         let class = row.class as usize;
         let part = (figures[class].idle * weight / totals[class]).max(1);
         let bound = figures[class].bound(wire_size(row.payload));
-        let least = (D * row.size()).div_ceil(part).max(bound);
-        let period = match random.below(16) {
-            0 if stretched => LONGEST.max(least),
-            1..=4 if stretched => least + random.between(0, least),
-            _ => least,
-        };
+        let least = (D * row.size()).div_ceil(part);
+        let period = periods.of(random, least, bound);
         row.pace = paced(random, period);
-        row.deadline = match random.below(4) {
-            0 => bound,
-            1 => row.period(),
-            _ => random.between(bound, row.period()),
+        let late = row.period().max(bound);
+        row.deadline = match random.below(8) {
+            0 | 1 => bound,
+            2 | 3 => late,
+            4 => random.between(late, LATEST.max(late)),
+            _ => random.between(bound, 2 * late),
         };
     }
 }
 
 /// A period, or at times a rate whose period is no shorter and not much longer.
 fn paced(random: &mut Random, period: u64) -> Pace {
+    if random.one_in(2) {
+        return Pace::Period(period);
+    }
+    let pace = near_rate(random, period);
+    if pace.period() > 2 * period {
+        return Pace::Period(period);
+    }
+    pace
+}
+
+fn near_rate(random: &mut Random, period: u64) -> Pace {
     let (slowest, fastest) = RATE_RANGE.into_inner();
     let most = *SAMPLES_RANGE.end();
     let samples = |rate: u64| (period * rate).div_ceil(SECOND);
-    if random.one_in(2) || samples(slowest) > most {
+    if samples(slowest) > most {
         return Pace::Period(period);
     }
     let rate = random.pick(&[44_100, 48_000, 96_000, 192_000]);
@@ -226,7 +318,7 @@ pub fn set_defaults(random: &mut Random, table: &mut Table) {
                 },
                 _ => Pace::Period(period),
             };
-            row.deadline = random.between(1, row.period());
+            row.deadline = random.between(1, 2 * row.period());
         }
         if random.one_in(3) {
             row.deadline = row.period();
@@ -251,7 +343,7 @@ pub fn change(random: &mut Random, table: &mut Table) {
     let place = random.below(table.rows.len());
     let class = table.rows[place].class;
     let off = random.between(0, 1);
-    match random.below(13) {
+    match random.below(14) {
         0 => late(table, place, off),
         1 => {
             let shares = shares(table, class);
@@ -271,11 +363,13 @@ pub fn change(random: &mut Random, table: &mut Table) {
         7 => table.rows[place].payload = random.pick(&[0, 42, 43, 1500, 1501, 65_535]),
         8 => {
             let period = table.rows[place].period();
-            table.rows[place].deadline = random.pick(&[0, 1, period, period + 1]);
+            let edges = [0, 1, period, period + 1, LATEST, LATEST + 1];
+            table.rows[place].deadline = random.pick(&edges);
         }
         9 => *idle(table, class) = random.pick(&[1, 750_000, 750_001, u64::from(u32::MAX)]),
         10 => table.best_payload = random.pick(&[0, 1500, 1501, 65_535]),
         11 => table.rows[place].pace = rated_edge(random),
+        12 => crowd(table, place, off),
         _ => {
             let row = table.rows[place];
             table.rows.resize(random.pick(&[0, 1, 32, 33, 255]), row);
@@ -297,6 +391,20 @@ pub fn late(table: &mut Table, place: usize, off: u64) {
     if let Some(bound) = bounds(table).ok().map(|bounds| bounds[place]) {
         table.rows[place].deadline = bound - off;
     }
+}
+
+/// Makes a row's period so short that the counts of its class sum to 64, or
+/// more by `off`.
+pub fn crowd(table: &mut Table, place: usize, off: u64) {
+    let Ok(plan) = accept(table) else {
+        return;
+    };
+    let class = table.rows[place].class;
+    let rows = table.rows.iter().zip(plan.most).enumerate();
+    let others = rows.filter(|(other, (row, _))| *other != place && row.class == class);
+    let others: u64 = others.map(|(_, (_, most))| most).sum();
+    let period = plan.bounds[place].div_ceil(MOST_IN_CLASS + off - others);
+    table.rows[place].pace = Pace::Period(period);
 }
 
 /// The sum of a class's shares, of the rows whose periods are not 0.

@@ -5,6 +5,7 @@ use std::collections::VecDeque;
 
 use simulator::port::{LAST_CLOCK, MOST_ADVANCE, MOST_BEST};
 use simulator::refusal::refuse;
+use simulator::table::MOST_IN_CLASS;
 use simulator::{wire_size, Advance, Call, Frame, Mark, Refusal, Table, TAKEN};
 
 type Answer = Result<Advance, Refusal>;
@@ -19,12 +20,27 @@ pub struct Watch<'a> {
     pub clock: u64,
     /// Each row's last taken instant.
     last: Vec<Option<u64>>,
-    /// The rows' frames that are taken and not reported.
-    waiting: Vec<Option<Frame>>,
-    /// The same of best effort, the first taken first.
+    /// Each row's frames that are taken and not reported, the first taken first.
+    waiting: Vec<VecDeque<Frame>>,
+    /// The same of best effort.
     waiting_best: VecDeque<Frame>,
-    /// The rows and ages of the reported frames.
-    pub ages: Vec<(usize, u64)>,
+    /// The rows' frames that were reported.
+    pub reported: Vec<Reported>,
+    /// The most frames that each row, and the rows of A and of B, had taken and
+    /// not reported at once.
+    pub most: Vec<usize>,
+    pub most_in_class: [usize; 2],
+}
+
+/// A row's frame that was reported.
+#[derive(Clone, Copy, Debug, PartialEq, Eq)]
+pub struct Reported {
+    pub row: usize,
+    /// The byte-times from its offer to its report.
+    pub age: u64,
+    /// How many frames of its row were taken and not reported, this one among
+    /// them.
+    pub together: usize,
 }
 
 fn hold(right: bool, wrong: impl FnOnce() -> String) -> Seen {
@@ -46,9 +62,11 @@ impl Watch<'_> {
             bounds,
             clock: 0,
             last: vec![None; table.rows.len()],
-            waiting: vec![None; table.rows.len()],
+            waiting: vec![VecDeque::new(); table.rows.len()],
             waiting_best: VecDeque::new(),
-            ages: Vec::new(),
+            reported: Vec::new(),
+            most: vec![0; table.rows.len()],
+            most_in_class: [0; 2],
         }
     }
 
@@ -95,10 +113,31 @@ impl Watch<'_> {
         same(answer, self.judge_offer(row, payload))?;
         if answer.is_ok() {
             let frame = self.frame(Mark::Row(row), payload);
-            let before = self.waiting[row].replace(frame);
-            hold(before.is_none(), || format!("{before:?} has not ended"))?;
+            self.waiting[row].push_back(frame);
             self.last[row] = Some(self.clock);
+            self.see_room(row)?;
         }
+        Ok(())
+    }
+
+    /// A row's frames in the port are at most its bound divided by its period,
+    /// rounded up, and those of a class at most 64.
+    fn see_room(&mut self, row: usize) -> Seen {
+        let count = self.waiting[row].len();
+        let most = self.bounds[row].div_ceil(self.table.rows[row].period());
+        hold(count as u64 <= most, || {
+            format!("{count} frames of row {row} have not ended")
+        })?;
+        self.most[row] = self.most[row].max(count);
+        let class = self.table.rows[row].class;
+        let rows = self.table.rows.iter().zip(&self.waiting);
+        let of_class = rows.filter(|(row, _)| row.class == class);
+        let count: usize = of_class.map(|(_, frames)| frames.len()).sum();
+        hold(count as u64 <= MOST_IN_CLASS, || {
+            format!("{count} frames of {class:?} have not ended")
+        })?;
+        let most = &mut self.most_in_class[class as usize];
+        *most = count.max(*most);
         Ok(())
     }
 
@@ -138,11 +177,11 @@ impl Watch<'_> {
         self.none_late()
     }
 
-    /// A reported frame is the one that was taken, by its mark, wire size and
-    /// instant, and is not older than its bound.
+    /// A reported frame is the first taken of its row or of best effort, by its
+    /// mark, wire size and instant, and is not older than its bound.
     fn see_end(&mut self, frame: Frame) -> Seen {
         let taken = match frame.mark {
-            Mark::Row(row) => self.waiting.get_mut(row).and_then(Option::take),
+            Mark::Row(row) => self.waiting.get_mut(row).and_then(VecDeque::pop_front),
             Mark::BestEffort => self.waiting_best.pop_front(),
         };
         hold(taken == Some(frame), || {
@@ -153,15 +192,20 @@ impl Watch<'_> {
             hold(age <= bound, || {
                 format!("row {row}'s frame ends at {age}, its bound is {bound}")
             })?;
-            self.ages.push((row, age));
+            self.reported.push(Reported {
+                row,
+                age,
+                together: self.waiting[row].len() + 1,
+            });
         }
         Ok(())
     }
 
     /// A frame that is not reported is younger than its bound.
     fn none_late(&self) -> Seen {
-        let late = |(frame, bound): (&Option<Frame>, &u64)| {
-            frame.filter(|frame| self.clock - frame.instant >= *bound)
+        let late = |(frames, bound): (&VecDeque<Frame>, &u64)| {
+            let first = frames.front().copied();
+            first.filter(|frame| self.clock - frame.instant >= *bound)
         };
         let late = self.waiting.iter().zip(self.bounds).find_map(late);
         hold(late.is_none(), || format!("{late:?} has not ended"))

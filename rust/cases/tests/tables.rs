@@ -1,8 +1,11 @@
 //! What the random tables have in them.
 
+use std::collections::BTreeSet;
+
 use cases::random::Random;
 use cases::tables;
-use simulator::{Pace, Row};
+use simulator::table::accept;
+use simulator::{open, Class, Pace, Row};
 
 fn is_rated(row: &Row) -> bool {
     matches!(row.pace, Pace::Rated { .. })
@@ -22,4 +25,51 @@ fn accepted_tables_have_rows_of_each_pace() {
     println!("{rated} of {rows} rows name a rate; {mixed} of 1000 tables have both");
     assert!(rated > rows / 4 && rows - rated > rows / 4);
     assert!(mixed > 400);
+}
+
+#[test]
+fn accepted_tables_have_rows_of_one_frame_and_of_several() {
+    let mut random = Random::new(11);
+    let (mut rows, mut several, mut above) = (0, 0, 0);
+    let mut seen = BTreeSet::new();
+    for _ in 0..5000 {
+        let table = tables::lively(&mut random);
+        let most = accept(&table).unwrap().most;
+        for (row, most) in table.rows.iter().zip(most) {
+            rows += 1;
+            several += u64::from(most > 1);
+            above += u64::from(row.deadline > row.period());
+            seen.insert(most);
+        }
+    }
+    println!("{several} of {rows} rows have several frames, {above} a deadline above the period");
+    println!("frames of a row: {seen:?}");
+    assert!(several > rows / 8 && above > rows / 4);
+    assert!((1..=20).all(|most| seen.contains(&most)));
+}
+
+#[test]
+fn tables_are_refused_with_20_for_each_class() {
+    let mut random = Random::new(12);
+    let mut seen = BTreeSet::new();
+    for _ in 0..100 {
+        let refusal = open(&tables::overfull(&mut random)).unwrap_err();
+        assert_eq!(refusal.number, 20);
+        seen.insert(refusal.place);
+    }
+    assert!(seen.into_iter().eq([0, 1]));
+}
+
+#[test]
+fn crowded_tables_have_a_row_of_several_frames() {
+    let mut random = Random::new(13);
+    for class in [Class::A, Class::B] {
+        for _ in 0..200 {
+            let tight = tables::tight_crowded(&mut random, class);
+            let crowded = tables::crowded(&mut random, 200_000);
+            for table in [tight, crowded] {
+                assert!(accept(&table).unwrap().most.iter().any(|&most| most > 1));
+            }
+        }
+    }
 }

@@ -1,6 +1,8 @@
 //! The watch lets the simulator's lists pass and sees a wrong answer.
 
+use cases::crowds;
 use cases::driver::Driver;
+use cases::hunt::Hunt;
 use cases::random::Random;
 use cases::specimen::table;
 use cases::traffic::{dense_calls, random_calls};
@@ -23,6 +25,20 @@ fn the_simulators_lists_pass() {
     dense_calls(&mut random, &mut driver, 2000);
     driver.drain();
     assert_eq!(watched(&driver), Ok(()));
+}
+
+#[test]
+fn several_frames_of_a_row_pass() {
+    let mut random = Random::new(14);
+    for table in crowds::all() {
+        for hunt in Hunt::all(&table) {
+            let mut driver = Driver::new(table.clone());
+            hunt.run(&mut driver);
+            dense_calls(&mut random, &mut driver, 500);
+            driver.drain();
+            assert_eq!(watched(&driver), Ok(()));
+        }
+    }
 }
 
 /// README's run: best effort has the wire when each row is offered to.
@@ -111,4 +127,40 @@ fn offers_are_taken_or_refused_by_the_rules() {
         driver.answers[place] = said;
     }
     assert_eq!(watched(&driver), Ok(()));
+}
+
+/// Four frames of a row in the port: they are reported in the order in which
+/// they were taken, each once.
+#[test]
+fn a_rows_frames_are_reported_in_turn() {
+    let mut driver = Driver::new(crowds::four_of_each());
+    driver.offer_best();
+    driver.make(Call::Advance(1));
+    for _ in 0..3 {
+        driver.offer(4);
+        driver.make(Call::Advance(600));
+    }
+    let first_end = driver.calls.len();
+    driver.drain();
+    assert_eq!(watched(&driver), Ok(()));
+    let ends = |driver: &Driver| {
+        let answers = driver.answers.iter().flatten().enumerate();
+        let of_row = answers.filter(|(_, answer)| {
+            let row = answer.ended.map(|frame| frame.mark);
+            row == Some(Mark::Row(4))
+        });
+        of_row.map(|(place, _)| place).collect::<Vec<_>>()
+    };
+    let ends = ends(&driver);
+    assert!(
+        ends.len() == 3 && ends.iter().all(|&end| end >= first_end),
+        "{ends:?}"
+    );
+    let mut swapped = driver.answers.clone();
+    swapped.swap(ends[0], ends[1]);
+    let said = std::mem::replace(&mut driver.answers, swapped);
+    assert!(watched(&driver).is_err());
+    driver.answers = said;
+    driver.answers[ends[1]] = driver.answers[ends[0]];
+    assert!(watched(&driver).is_err());
 }

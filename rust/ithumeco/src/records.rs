@@ -7,10 +7,10 @@ use simulator::{Class, Frame, Pace, Port, Row, Wire};
 use crate::words::{put_words, words, WORD_SIZE};
 
 /// The version of the layout, a record's first word.
-pub const VERSION: u64 = 1_000_002;
+pub const VERSION: u64 = 1_000_003;
 
 /// The size of a record in words.
-pub const RECORD_WORDS: usize = 512;
+pub const RECORD_WORDS: usize = 704;
 
 /// The size of a record in bytes.
 pub const RECORD_SIZE: usize = RECORD_WORDS * WORD_SIZE;
@@ -70,8 +70,8 @@ pub struct Record {
     /// Credits are in two's complement.
     pub credit_a: u64,
     pub credit_b: u64,
-    pub queue_a: QueueWords<32>,
-    pub queue_b: QueueWords<32>,
+    pub queue_a: QueueWords<64>,
+    pub queue_b: QueueWords<64>,
     pub queue_best: QueueWords<16>,
     pub last: [LastWords; 32],
     pub wire: WireWords,

@@ -4,8 +4,8 @@ use std::ops::RangeInclusive;
 
 use crate::refusal::{refuse, Refusal};
 use crate::table::{
-    check_ranges, Class, Pace, Row, Table, IDLE_RANGE, MOST_ROWS, PAYLOAD_RANGE, PERIOD_RANGE,
-    RATE_RANGE, SAMPLES_RANGE,
+    check_ranges, Class, Pace, Row, Table, DEADLINE_RANGE, IDLE_RANGE, MOST_ROWS, PAYLOAD_RANGE,
+    PERIOD_RANGE, RATE_RANGE, SAMPLES_RANGE,
 };
 
 /// "The header, 15 bytes"
@@ -134,11 +134,12 @@ fn read_row(file: &[u8], at: &mut usize) -> Result<Row, Refusal> {
         pace = Pace::Rated { rate, samples };
     }
     // "deadline the row's period". C-11: "The deadline's range and default are
-    // then judged after the samples field, at the deadline's own offset."
+    // then judged after the samples field, at the deadline's own offset." C-12:
+    // "its default stays the period".
     let period = pace.period();
     let mut deadline = period;
     if let Some(field) = stated_deadline {
-        deadline = field.within(1..=period)?.other_than(period)?;
+        deadline = field.within(DEADLINE_RANGE)?.other_than(period)?;
     }
     Ok(Row {
         class,

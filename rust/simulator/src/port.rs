@@ -3,7 +3,7 @@
 use std::collections::VecDeque;
 
 use crate::refusal::{refuse, Refusal};
-use crate::table::{accept, wire_size, Class, Table, MOST_ROWS};
+use crate::table::{accept, wire_size, Class, Table, MOST_IN_CLASS, MOST_ROWS};
 
 /// "a clock (0 to 1,099,511,627,775)"
 pub const LAST_CLOCK: u64 = 1_099_511_627_775;
@@ -120,8 +120,8 @@ impl Port {
             clock: 0,
             credit_a: 0,
             credit_b: 0,
-            queue_a: VecDeque::with_capacity(MOST_ROWS),
-            queue_b: VecDeque::with_capacity(MOST_ROWS),
+            queue_a: VecDeque::with_capacity(MOST_IN_CLASS as usize),
+            queue_b: VecDeque::with_capacity(MOST_IN_CLASS as usize),
             queue_best: VecDeque::with_capacity(MOST_BEST),
             last: vec![None; MOST_ROWS],
             wire: Wire::Free,
@@ -160,7 +160,7 @@ impl Port {
 
 /// The names of the clauses by which a record is broken, in the order in which
 /// `broken` tries them.
-pub const CLAUSES: [&str; 14] = [
+pub const CLAUSES: [&str; 15] = [
     "table not accepted",
     "clock out of range",
     "credit of A out of range",
@@ -172,8 +172,9 @@ pub const CLAUSES: [&str; 14] = [
     "bytes left are 0 or above the size",
     "a frame's instant is after the clock",
     "a row's last instant is after the clock",
-    "a row has two frames",
-    "a row's frame wasn't taken at the row's last instant",
+    "a row has too many frames",
+    "two frames of a row were taken less than a period apart",
+    "a row's newest frame wasn't taken at the row's last instant",
     "a row's frame is as old as its bound",
 ];
 
@@ -250,29 +251,43 @@ pub fn broken(port: &Port) -> Option<&'static str> {
         return Some(CLAUSES[10]);
     }
 
-    // "a row has two frames in the port"
-    let mut seen = [false; MOST_ROWS];
-    for (row, _) in port.row_frames() {
-        if seen[row] {
-            return Some(CLAUSES[11]);
-        }
-        seen[row] = true;
+    // The rows' frames, in any places and any order, by row and the oldest
+    // first.
+    let mut taken = Vec::with_capacity(port.queue_a.len() + port.queue_b.len());
+    taken.extend(port.row_frames().map(|(row, frame)| (row, frame.instant)));
+    taken.sort_unstable();
+    let rows = || taken.chunk_by(|one, next| one.0 == next.0);
+
+    // "a row has two frames in the port", by C-12 "more than that many": "as
+    // its bound divided by its period, rounded up"
+    if rows().any(|frames| frames.len() as u64 > accepted.most[frames[0].0]) {
+        return Some(CLAUSES[11]);
     }
 
-    // "a row's frame wasn't taken at the row's last instant"
-    if port
-        .row_frames()
-        .any(|(row, frame)| port.last.get(row) != Some(&Some(frame.instant)))
-    {
+    // C-12: "or two taken less than a period apart"
+    let too_near = |pair: &[(usize, u64)]| {
+        let (row, older) = pair[0];
+        pair[1].1 - older < table.rows[row].period()
+    };
+    if rows().any(|frames| frames.windows(2).any(too_near)) {
         return Some(CLAUSES[12]);
     }
 
-    // "a row's frame is as old as its bound or older"
-    if port
-        .row_frames()
-        .any(|(row, frame)| port.clock - frame.instant >= accepted.bounds[row])
+    // "a row's frame wasn't taken at the row's last instant", by C-12 "the
+    // newest must have the row's last instant"
+    if rows()
+        .filter_map(|frames| frames.last())
+        .any(|&(row, newest)| port.last.get(row) != Some(&Some(newest)))
     {
         return Some(CLAUSES[13]);
+    }
+
+    // "a row's frame is as old as its bound or older"
+    if taken
+        .iter()
+        .any(|&(row, instant)| port.clock - instant >= accepted.bounds[row])
+    {
+        return Some(CLAUSES[14]);
     }
 
     None
@@ -303,7 +318,8 @@ impl Port {
                 return refuse(13, 0);
             }
         }
-        // "A class queue has no refusal."
+        // "A class queue has no refusal." C-12: "an offer still never meets a
+        // full class queue".
         let frame = Frame {
             mark: Mark::Row(place),
             size: wire_size(payload),

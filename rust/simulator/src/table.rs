@@ -19,6 +19,9 @@ pub const PAYLOAD_RANGE: RangeInclusive<u64> = 0..=1500;
 /// "period P (84 to 1,000,000,000 byte-times)"
 pub const PERIOD_RANGE: RangeInclusive<u64> = 84..=1_000_000_000;
 
+/// C-12: "A deadline may now be 1 to 1,000,000,000, whatever the period"
+pub const DEADLINE_RANGE: RangeInclusive<u64> = 1..=1_000_000_000;
+
 /// C-11: "rate u32 (1,000 to 200,000 Hz)"
 pub const RATE_RANGE: RangeInclusive<u64> = 1_000..=200_000;
 
@@ -30,6 +33,9 @@ pub const SECOND: u64 = 125_000_000;
 
 /// "IA + IB ≤ 750,000"
 pub const MOST_IDLE_TOGETHER: u64 = 750_000;
+
+/// C-12: "each class queue has space for 64"
+pub const MOST_IN_CLASS: u64 = 64;
 
 /// The place of a refused header value at opening.
 pub const HEADER_PLACE: usize = 32;
@@ -145,6 +151,13 @@ impl Figures {
         size + self.blocking + (D * (self.sum - size) + self.send * self.largest) / self.idle
     }
 
+    /// C-12: "A row may have as many frames in the port as its bound divided
+    /// by its period, rounded up". The row is one of the class, its values in
+    /// range.
+    pub fn most_of(&self, row: &Row) -> u64 {
+        self.bound(row.size()).div_ceil(row.period())
+    }
+
     /// The range of the class's credit: "−S × L to I × H".
     pub fn credit_range(&self) -> RangeInclusive<i64> {
         let lowest = -((self.send * self.largest) as i64);
@@ -223,7 +236,8 @@ pub fn check_ranges(table: &Table) -> Result<(), Refusal> {
     }
     // "5, a value out of range, place its row, or 32 for a header value
     // (header first; in a row payload, period, deadline)." C-11: "Opening checks
-    // rate and samples under 5 where the period is checked."
+    // rate and samples under 5 where the period is checked." C-12: the deadline's
+    // range is the same "whatever the period".
     if !IDLE_RANGE.contains(&table.idle_a)
         || !IDLE_RANGE.contains(&table.idle_b)
         || !PAYLOAD_RANGE.contains(&table.best_payload)
@@ -233,8 +247,7 @@ pub fn check_ranges(table: &Table) -> Result<(), Refusal> {
     for (place, row) in table.rows.iter().enumerate() {
         if !PAYLOAD_RANGE.contains(&row.payload)
             || !row.pace.in_range()
-            // "deadline (1 to P)"
-            || !(1..=row.period()).contains(&row.deadline)
+            || !DEADLINE_RANGE.contains(&row.deadline)
         {
             return refuse(5, place);
         }
@@ -249,6 +262,8 @@ pub struct Accepted {
     pub b: Figures,
     /// The rows' bounds, 0 in each place behind the last row.
     pub bounds: [u64; MOST_ROWS],
+    /// How many frames each row may have in the port, in the same way.
+    pub most: [u64; MOST_ROWS],
 }
 
 /// Opening a table.
@@ -284,15 +299,24 @@ pub fn accept(table: &Table) -> Result<Accepted, Refusal> {
     }
     // "10, a bound above its deadline, place the lowest such row."
     let mut bounds = [0; MOST_ROWS];
+    let mut most = [0; MOST_ROWS];
+    let mut in_class = [0, 0];
     for (place, row) in table.rows.iter().enumerate() {
-        let class = match row.class {
-            Class::A => &a,
-            Class::B => &b,
+        let (class, number) = match row.class {
+            Class::A => (&a, 0),
+            Class::B => (&b, 1),
         };
         bounds[place] = class.bound(row.size());
         if bounds[place] > row.deadline {
             return refuse(10, place);
         }
+        most[place] = class.most_of(row);
+        in_class[number] += most[place];
     }
-    Ok(Accepted { a, b, bounds })
+    // C-12: "20, at opening, after 10, those counts sum above 64 in a class,
+    // place 0 for A, 1 for B; such a table isn't accepted."
+    if let Some(place) = in_class.iter().position(|&sum| sum > MOST_IN_CLASS) {
+        return refuse(20, place);
+    }
+    Ok(Accepted { a, b, bounds, most })
 }

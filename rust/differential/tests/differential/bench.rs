@@ -3,7 +3,7 @@
 
 use cases::driver::Driver;
 use cases::random::Random;
-use cases::watch::Watch;
+use cases::watch::{Reported, Watch};
 use differential::expected::{self, call_of, Outcome};
 use differential::guarded::Guarded;
 use ithumeco::{list_bytes, words, Answer, BOUNDS_SIZE, CALL_SIZE};
@@ -14,11 +14,15 @@ use crate::tally::Counts;
 /// A call of the library that fills a buffer from a table file.
 type FileCall = fn(&[u8], &mut [u8]) -> Outcome;
 
-/// A row's frame that was reported ended.
-pub struct Reported {
-    pub row: usize,
-    pub age: u64,
-    pub bound: u64,
+/// What a list showed that the simulator and the library have played.
+pub struct Played {
+    /// The table's bounds by the library.
+    pub bounds: Vec<u64>,
+    /// The rows' frames that were reported ended.
+    pub reported: Vec<Reported>,
+    /// The most frames that each row, and each class, had in the port.
+    pub most: Vec<usize>,
+    pub most_in_class: [usize; 2],
 }
 
 pub struct Bench {
@@ -106,8 +110,8 @@ impl Bench {
 
     /// A list that the simulator has played, with some bytes of room more than
     /// the answers need. The library's answers are held to the simulator's, and
-    /// to demand 3 by the library's bounds. Gives the frames of rows.
-    pub fn replay_played(&mut self, driver: &Driver, more: usize) -> Vec<Reported> {
+    /// to demand 3 by the library's bounds.
+    pub fn replay_played(&mut self, driver: &Driver, more: usize) -> Played {
         let table = &driver.port.table;
         let file = file_of(table);
         let calls = list_bytes(&driver.calls);
@@ -125,12 +129,14 @@ impl Bench {
         let steps = driver.calls.iter().copied().zip(said.map(Answer::said));
         let seen = watch.see_all(steps);
         assert!(seen.is_ok(), "{seen:?}, file {file:02X?}");
-        let reported = |(row, age)| Reported {
-            row,
-            age,
-            bound: bounds[row],
-        };
-        watch.ages.into_iter().map(reported).collect()
+        let (reported, most) = (watch.reported, watch.most);
+        let most_in_class = watch.most_in_class;
+        Played {
+            bounds,
+            reported,
+            most,
+            most_in_class,
+        }
     }
 
     fn list(

@@ -13,7 +13,7 @@ use differential::readable::port_of;
 use ithumeco::{call_bytes, put_words, words, Record, ANSWER_SIZE, RECORD_SIZE, WORD_SIZE};
 use simulator::port::{CLAUSES, LAST_CLOCK};
 use simulator::table::accept;
-use simulator::{broken, Call, Class, Pace, Port, Row};
+use simulator::{broken, Call, Class, Mark, Pace, Port, Row, Table, Wire};
 
 use crate::bench::Bench;
 use crate::damages::DAMAGES;
@@ -43,15 +43,43 @@ pub fn run(bench: &mut Bench) {
 }
 
 /// Ports of one table: busy with a row's frame on the wire, busy with a
-/// best-effort frame on the wire, and idle.
-fn sound_ports(random: &mut Random) -> [Port; 3] {
+/// best-effort frame on the wire, and idle; and one with several frames of a
+/// row in each queue.
+fn sound_ports(random: &mut Random) -> [Port; 4] {
     let idle = idle_port(random);
     let mut by_row = offered(idle.clone());
     by_row.advance(1).expect("a sound port");
     let mut by_best = idle.clone();
     by_best.offer_best(0).expect("a sound port");
     by_best.advance(1).expect("a sound port");
-    [by_row, offered(by_best), idle]
+    [by_row, offered(by_best), idle, crowded_port(random)]
+}
+
+/// Whether a table has some rows of each class and of each pace, and some
+/// places not in use.
+fn is_mixed(table: &Table) -> bool {
+    let of = |class| table.rows.iter().filter(|row| row.class == class).count();
+    let is_rated = |row: &Row| matches!(row.pace, Pace::Rated { .. });
+    let rated = table.rows.iter().filter(|row| is_rated(row)).count();
+    of(Class::A) >= 3
+        && of(Class::B) >= 3
+        && table.rows.len() <= 30
+        && (1..table.rows.len()).contains(&rated)
+}
+
+/// A port with several frames of a row in the queue of A and in that of B.
+fn crowded_port(random: &mut Random) -> Port {
+    loop {
+        let table = tables::crowded(random, AGE);
+        let plan = accept(&table).expect("an accepted table");
+        let several = |class| {
+            let mut rows = table.rows.iter().zip(plan.most);
+            rows.any(|(row, most)| row.class == class && most > 2)
+        };
+        if is_mixed(&table) && several(Class::A) && several(Class::B) {
+            return ports::made_up(random, table);
+        }
+    }
 }
 
 /// A port with some rows of each class and of each pace, and some places not
@@ -59,12 +87,7 @@ fn sound_ports(random: &mut Random) -> [Port; 3] {
 fn idle_port(random: &mut Random) -> Port {
     loop {
         let table = tables::within(random, AGE);
-        let of = |class| table.rows.iter().filter(|row| row.class == class).count();
-        if of(Class::A) < 3 || of(Class::B) < 3 || table.rows.len() > 30 {
-            continue;
-        }
-        let is_rated = |row: &Row| matches!(row.pace, Pace::Rated { .. });
-        if table.rows.iter().all(is_rated) || !table.rows.iter().any(is_rated) {
+        if !is_mixed(&table) {
             continue;
         }
         let mut driver = Driver::new(table);
@@ -74,6 +97,7 @@ fn idle_port(random: &mut Random) -> Port {
         while driver.port.clock < AGE {
             driver.make(Call::Advance(65_535));
         }
+        driver.drain();
         return driver.port;
     }
 }
@@ -150,7 +174,7 @@ fn with_changes(
 }
 
 /// Words at the edges of fields and rules.
-const EDGES: [u64; 28] = [
+const EDGES: [u64; 30] = [
     0,
     1,
     2,
@@ -160,6 +184,8 @@ const EDGES: [u64; 28] = [
     17,
     32,
     33,
+    64,
+    65,
     83,
     84,
     200,
@@ -239,9 +265,16 @@ fn lengths(bench: &mut Bench, port: &Port) {
     call(bench, &with_zeros, Call::Advance(1));
 }
 
-/// Records of a port that a list has led to, with a few of its parts changed.
+/// Records of a port that a list has led to, or that is made up, with a few of
+/// its parts changed.
 fn changed(bench: &mut Bench, random: &mut Random, seen: &mut BTreeSet<&str>) {
-    let sound = ports::reached(random);
+    let sound = match random.below(2) {
+        0 => ports::reached(random),
+        _ => {
+            let table = tables::lively(random);
+            ports::made_up(random, table)
+        }
+    };
     for _ in 0..40 {
         let mut port = sound.clone();
         for _ in 0..random.between(1, 3) {
@@ -262,8 +295,9 @@ fn junk(bench: &mut Bench, random: &mut Random, port: &Port) {
         let mut record = Record::from_bytes(&junk_bytes(random));
         // A row that was never offered to.
         let mut port = port.clone();
-        let never = port.table.rows.iter().position(|row| row.class == Class::A);
-        port.last[never.expect("a row of class A")] = None;
+        if let Some(never) = without_frames(&port) {
+            port.last[never] = None;
+        }
         record.store(&port);
         let record = record.bytes();
         every_call(bench, &port, &record);
@@ -273,6 +307,17 @@ fn junk(bench: &mut Bench, random: &mut Random, port: &Port) {
             bench.call(&mut kept, &call_bytes(made), ANSWER_SIZE);
         }
     }
+}
+
+/// The first row that has no frame in the port.
+fn without_frames(port: &Port) -> Option<usize> {
+    let has = |row| {
+        let mark = Mark::Row(row);
+        let mut waiting = port.queue_a.iter().chain(&port.queue_b);
+        let sent = matches!(port.wire, Wire::Sending(frame, _) if frame.mark == mark);
+        sent || waiting.any(|frame| frame.mark == mark)
+    };
+    (0..port.table.rows.len()).find(|&row| !has(row))
 }
 
 /// Random bytes, at times such as fields can hold.

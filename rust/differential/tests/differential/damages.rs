@@ -1,7 +1,7 @@
 //! Changes to a sound record by the clauses of document 01's "broken": changes
 //! that make a clause hold, and changes up to its edge that do not.
 
-use ithumeco::{FrameWords, LastWords, Record, RowWords, WireWords};
+use ithumeco::{FrameWords, LastWords, QueueWords, Record, RowWords, WireWords};
 use simulator::port::{BEST_EFFORT, LAST_CLOCK};
 use simulator::table::{Accepted, Figures};
 
@@ -71,7 +71,10 @@ pub const DAMAGES: &[Damage] = &[
     |record, _| fill_best(record, 200),
     |record, _| fill_best(record, u64::MAX),
     // "a frame names no row of the table"
-    |record, _| record.queue_a.count = 33,
+    |record, _| record.queue_a.count = 64,
+    |record, _| record.queue_a.count = 65,
+    |record, _| record.queue_b.count = 64,
+    |record, _| record.queue_b.count = 65,
     |record, _| record.queue_b.count = u64::MAX,
     |record, _| record.queue_a.frames[0].source = record.count,
     |record, _| record.queue_b.frames[0].source = 33,
@@ -108,26 +111,39 @@ pub const DAMAGES: &[Damage] = &[
     |record, _| record.last[idle_row(record)] = at(record.clock),
     |record, _| record.last[idle_row(record)] = at(record.clock + 1),
     |record, _| record.last[idle_row(record)] = at(u64::MAX),
-    // "a row has two frames in the port"
-    |record, _| {
-        let place = record.queue_a.count as usize;
-        record.queue_a.frames[place] = record.queue_a.frames[0];
-        record.queue_a.count += 1;
-    },
-    |record, _| {
-        let place = record.queue_b.count as usize;
-        record.queue_b.frames[place] = record.queue_b.frames[0];
-        record.queue_b.count += 1;
-    },
+    // "a row has two frames in the port", by C-12 "more than that many, or two
+    // taken less than a period apart"
+    |record, _| push_first(&mut record.queue_a),
+    |record, _| push_first(&mut record.queue_b),
     |record, _| record.queue_a.frames[0] = record.wire.frame,
-    // "a row's frame wasn't taken at the row's last instant"
+    |record, plan| add_older(record, plan, 0),
+    |record, plan| add_older(record, plan, 1),
+    |record, _| apart(record, 0, 0),
+    |record, _| apart(record, 0, 1),
+    |record, _| apart(record, 1, 0),
+    |record, _| apart(record, 1, 1),
+    // any order is sound
+    |record, _| swap_pair(record, 0),
+    |record, _| swap_pair(record, 1),
+    |record, _| reverse(&mut record.queue_a),
+    |record, _| reverse(&mut record.queue_b),
+    |record, _| {
+        reverse(&mut record.queue_a);
+        reverse(&mut record.queue_b);
+    },
+    // "a row's frame wasn't taken at the row's last instant", by C-12 "the
+    // newest must have the row's last instant"
+    |record, _| last_of_older(record, 0),
+    |record, _| last_of_older(record, 1),
+    |record, _| drop_newest(record, 0),
+    |record, _| drop_newest(record, 1),
     |record, _| record.queue_a.frames[0].taken = record.clock - 1,
     |record, _| record.queue_b.frames[0].taken = record.clock - 1,
     |record, _| record.wire.frame.taken = record.clock - 2,
     |record, _| record.last[waiting_row(record)] = LastWords::default(),
     // "a row's frame is as old as its bound or older"
-    |record, plan| retake(record, record.clock + 1 - plan.bounds[waiting_row(record)]),
-    |record, plan| retake(record, record.clock - plan.bounds[waiting_row(record)]),
+    |record, plan| retake_aged(record, plan.bounds[waiting_row(record)] - 1),
+    |record, plan| retake_aged(record, plan.bounds[waiting_row(record)]),
     |record, _| retake(record, 0),
 ];
 
@@ -146,11 +162,20 @@ fn paced(record: &mut Record, rated: u64) -> &mut RowWords {
     row.expect("a row of each pace")
 }
 
-/// A rate of 48,000 Hz with a period that is no shorter than the deadline.
+/// A rate of 48,000 Hz with a period that is no shorter than the row's.
 fn of_48_000(row: &mut RowWords) {
+    let period = period(row);
     row.rated = 1;
     row.pace = 48_000;
-    row.samples = (row.deadline * 48_000).div_ceil(125_000_000);
+    row.samples = (period * 48_000).div_ceil(125_000_000);
+}
+
+/// The period of a row that is in range.
+fn period(row: &RowWords) -> u64 {
+    match row.rated {
+        0 => row.pace,
+        _ => row.samples * 125_000_000 / row.pace,
+    }
 }
 
 fn lowest(class: &Figures) -> u64 {
@@ -190,8 +215,7 @@ fn last_of_a(record: &mut Record) -> Option<FrameWords> {
 
 fn move_from_a_to_b(record: &mut Record) {
     if let Some(frame) = last_of_a(record) {
-        record.queue_b.frames[record.queue_b.count as usize] = frame;
-        record.queue_b.count += 1;
+        push(&mut record.queue_b, frame);
     }
 }
 
@@ -201,6 +225,97 @@ fn move_from_a_to_best(record: &mut Record) {
     }
 }
 
+/// Puts a frame behind the last one of a queue, if there is a place.
+fn push<const PLACES: usize>(queue: &mut QueueWords<PLACES>, frame: FrameWords) {
+    if let Some(place) = queue.frames.get_mut(queue.count as usize) {
+        *place = frame;
+    }
+    queue.count += 1;
+}
+
+/// The first frame once more.
+fn push_first<const PLACES: usize>(queue: &mut QueueWords<PLACES>) {
+    push(queue, queue.frames[0]);
+}
+
+fn reverse<const PLACES: usize>(queue: &mut QueueWords<PLACES>) {
+    queue.frames[..queue.count as usize].reverse();
+}
+
+/// The queue of A or of B.
+fn queue(record: &mut Record, class: usize) -> &mut QueueWords<64> {
+    match class {
+        0 => &mut record.queue_a,
+        _ => &mut record.queue_b,
+    }
+}
+
+/// The places of the two newest frames of the first row that has two in a
+/// class's queue: the older, the newest.
+fn pair(record: &mut Record, class: usize) -> Option<(usize, usize)> {
+    let queue = queue(record, class);
+    let waiting = &queue.frames[..queue.count as usize];
+    (0..32).find_map(|row| {
+        let places = (0..waiting.len()).filter(|&place| waiting[place].source == row);
+        let mut places: Vec<usize> = places.collect();
+        places.sort_by_key(|&place| waiting[place].taken);
+        let [.., older, newest] = places[..] else {
+            return None;
+        };
+        Some((older, newest))
+    })
+}
+
+/// Takes the newest of the two so long after the older: a period, or less by
+/// `off`.
+fn apart(record: &mut Record, class: usize, off: u64) {
+    let Some((older, newest)) = pair(record, class) else {
+        return;
+    };
+    let older = queue(record, class).frames[older];
+    let row = older.source as usize;
+    let taken = older.taken + period(&record.rows[row]) - off;
+    queue(record, class).frames[newest].taken = taken;
+    record.last[row] = at(taken);
+}
+
+fn swap_pair(record: &mut Record, class: usize) {
+    if let Some((older, newest)) = pair(record, class) {
+        queue(record, class).frames.swap(older, newest);
+    }
+}
+
+/// The older's instant as the row's last.
+fn last_of_older(record: &mut Record, class: usize) {
+    if let Some((older, _)) = pair(record, class) {
+        let older = queue(record, class).frames[older];
+        record.last[older.source as usize] = at(older.taken);
+    }
+}
+
+/// The newest leaves the queue.
+fn drop_newest(record: &mut Record, class: usize) {
+    if let Some((_, newest)) = pair(record, class) {
+        let queue = queue(record, class);
+        queue.frames.copy_within(newest + 1.., newest);
+        queue.count -= 1;
+    }
+}
+
+/// Adds a frame of the first waiting frame's row, a period older than the
+/// oldest: one too many where the row has as many as it may.
+fn add_older(record: &mut Record, plan: &Accepted, class: usize) {
+    let queue = queue(record, class);
+    let first = queue.frames[0];
+    let row = first.source as usize % 32;
+    let waiting = queue.frames[..queue.count as usize].iter();
+    let of_row = waiting.filter(|frame| frame.source == first.source);
+    let oldest = of_row.map(|frame| frame.taken).min().unwrap_or(0);
+    let period = period(&record.rows[row]);
+    let taken = oldest.saturating_sub(period.min(plan.bounds[row]));
+    push(self::queue(record, class), FrameWords { taken, ..first });
+}
+
 fn at(taken: u64) -> LastWords {
     LastWords { known: 1, taken }
 }
@@ -208,6 +323,11 @@ fn at(taken: u64) -> LastWords {
 /// The row whose frame is first in the queue of B.
 fn waiting_row(record: &Record) -> usize {
     record.queue_b.frames[0].source as usize
+}
+
+/// Another age for that frame and its row.
+fn retake_aged(record: &mut Record, age: u64) {
+    retake(record, record.clock.wrapping_sub(age));
 }
 
 /// Another instant for that frame and its row.

@@ -1,9 +1,9 @@
 //! Records with a clock near its last value, and beyond it.
 
-use cases::ports::{moved, reached};
+use cases::ports::{full, moved, reached};
 use cases::random::Random;
-use cases::specimen;
 use cases::traffic::any_call;
+use cases::{crowds, specimen};
 use ithumeco::{call_bytes, Answer, Record, ANSWER_SIZE};
 use simulator::port::{LAST_CLOCK, MOST_ADVANCE};
 use simulator::{Call, Port};
@@ -39,8 +39,9 @@ pub fn run(bench: &mut Bench) {
     }
 }
 
-/// The specimen's port: fresh, and with frames waiting and on the wire.
-fn ports() -> [Port; 2] {
+/// The specimen's port: fresh, and with frames waiting and on the wire; and a
+/// port with full class queues.
+fn ports() -> [Port; 3] {
     let fresh = Port::fresh(specimen::table());
     let mut busy = fresh.clone();
     for row in 0..3 {
@@ -48,7 +49,7 @@ fn ports() -> [Port; 2] {
     }
     busy.offer_best(1500).expect("a sound port");
     busy.advance(1).expect("a sound port");
-    [fresh, busy]
+    [fresh, busy, full(crowds::full_classes())]
 }
 
 /// Calls one by one on a port's record.

@@ -4,10 +4,10 @@
 //! Names of groups as arguments run these groups alone.
 
 mod bench;
+mod crowds;
 mod damaged;
 mod damages;
 mod files;
-mod hunt;
 mod late;
 mod opening;
 mod programs;
@@ -26,13 +26,14 @@ use tally::Tally;
 
 type Group = fn(&mut Bench);
 
-const GROUPS: [(&str, Group); 8] = [
+const GROUPS: [(&str, Group); 9] = [
     ("files", files::run),
     ("opening", opening::run),
     ("replay", replay::run),
     ("records", records::run),
     ("damaged", damaged::run),
     ("late", late::run),
+    ("crowds", crowds::run),
     ("programs", programs::run),
     ("promise", promise::run),
 ];

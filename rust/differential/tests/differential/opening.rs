@@ -4,11 +4,15 @@ use std::collections::BTreeSet;
 
 use cases::random::Random;
 use cases::specimen::FILE;
-use cases::{rates, tables};
-use ithumeco::RECORD_SIZE;
+use cases::{crowds, rates, tables};
+use ithumeco::{BOUNDS_SIZE, RECORD_SIZE};
 use simulator::file::{file_of, file_stating};
+use simulator::{Pace, Refusal};
 
 use crate::bench::Bench;
+
+/// The bytes of the longest file.
+const MOST_FILE: usize = 399;
 
 /// The numbers and places of the refusals that were seen.
 type Seen = BTreeSet<(u8, u64)>;
@@ -33,6 +37,7 @@ pub fn run(bench: &mut Bench) {
         }
     }
     late_rows(bench, &mut random, &mut seen);
+    full_classes(bench, &mut random, &mut seen);
     covered(&seen);
     rated_rows(bench, &mut random);
 }
@@ -63,11 +68,48 @@ fn late_rows(bench: &mut Bench, random: &mut Random, seen: &mut Seen) {
     }
 }
 
+/// Counts of frames that sum to 64 in a class, to one more, and to any above.
+fn full_classes(bench: &mut Bench, random: &mut Random, seen: &mut Seen) {
+    for table in crowds::all() {
+        assert_eq!(bench.open(&file_of(&table), RECORD_SIZE), Ok(()));
+    }
+    let refused = |number, place| Err(Refusal { number, place });
+    let file = file_of(&crowds::one_too_many());
+    assert_eq!(bench.open(&file, RECORD_SIZE), refused(20, 1));
+    // Both classes at 64, then one or both of them at 65.
+    for (places, class) in [(&[0][..], 0), (&[4], 1), (&[0, 4], 0)] {
+        let mut table = crowds::full_classes();
+        for &place in places {
+            let period = table.rows[place].period();
+            table.rows[place].pace = Pace::Period(period - 1);
+        }
+        assert_eq!(
+            bench.open(&file_of(&table), RECORD_SIZE),
+            refused(20, class)
+        );
+        bench.bounds(&file_of(&table), BOUNDS_SIZE);
+        bench.rewrite(&file_of(&table), MOST_FILE);
+    }
+    for _ in 0..bench.times(2000) {
+        let file = file_of(&tables::overfull(random));
+        open(bench, random, seen, &file);
+        bench.bounds(&file, BOUNDS_SIZE);
+        bench.rewrite(&file, MOST_FILE);
+    }
+    for _ in 0..bench.times(2000) {
+        let mut table = tables::crowded(random, u64::MAX);
+        let place = random.below(table.rows.len());
+        tables::crowd(&mut table, place, random.between(0, 1));
+        open(bench, random, seen, &file_of(&table));
+    }
+}
+
 /// The places of a file's header, of a class and of each late row.
 fn covered(seen: &Seen) {
-    let fixed = [(3, 14), (5, 4), (5, 8), (5, 12), (8, 0), (9, 0), (9, 1)];
+    let fixed = [(3, 14), (5, 4), (5, 8), (5, 12), (8, 0)];
+    let of_class = [(9, 0), (9, 1), (20, 0), (20, 1)];
     let late = (0..32).map(|row| (10, row));
-    all_in(seen, fixed.into_iter().chain(late));
+    all_in(seen, fixed.into_iter().chain(of_class).chain(late));
 }
 
 /// Every cut of a file of rated rows, and every change of a single byte: each

@@ -15,7 +15,7 @@ use cases::lines;
 use cases::random::Random;
 use cases::specimen::{self, FILE};
 use cases::traffic::TRAFFIC;
-use cases::{rates, tables};
+use cases::{crowds, rates, tables};
 use simulator::file_of;
 
 use crate::bench::Bench;
@@ -33,6 +33,8 @@ pub fn run(bench: &mut Bench) {
     for by_bytes in [false, true] {
         programs.sheet(bench, &FILE, by_bytes);
         programs.sheet(bench, &rates::FILE, by_bytes);
+        programs.sheet(bench, &file_of(&crowds::with_two_neighbours()), by_bytes);
+        programs.sheet(bench, &file_of(&crowds::one_too_many()), by_bytes);
         programs.sheet(bench, &[], by_bytes);
         programs.sheet(bench, &[&FILE[..], &[0; 2000]].concat(), by_bytes);
         programs.list(bench, &FILE, b"", by_bytes);

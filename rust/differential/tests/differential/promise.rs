@@ -1,13 +1,13 @@
 //! The promise: no frame of a row is older than its row's bound when it ends.
 
 use cases::driver::Driver;
+use cases::hunt::Hunt;
 use cases::random::Random;
 use cases::traffic::dense_calls;
-use cases::{rates, specimen, tables};
+use cases::{crowds, rates, specimen, tables};
 use simulator::{Class, Table};
 
-use crate::bench::{Bench, Reported};
-use crate::hunt::{hunt, Way};
+use crate::bench::{Bench, Played};
 
 /// The longest period of a table that is hunted on.
 const LONGEST: u64 = 200_000;
@@ -15,7 +15,8 @@ const LONGEST: u64 = 200_000;
 pub fn run(bench: &mut Bench) {
     let mut random = Random::new(8);
     let mut closest = Closest::default();
-    for table in [specimen::table(), rates::table()] {
+    let fixed = [specimen::table(), rates::table()];
+    for table in fixed.into_iter().chain(crowds::all()) {
         on_table(bench, &mut random, &mut closest, table);
     }
     for _ in 0..bench.times(400) {
@@ -24,6 +25,14 @@ pub fn run(bench: &mut Bench) {
             on_table(bench, &mut random, &mut closest, table);
         }
         let table = tables::within(&mut random, LONGEST);
+        on_table(bench, &mut random, &mut closest, table);
+    }
+    for _ in 0..bench.times(200) {
+        for class in [Class::A, Class::B] {
+            let table = tables::tight_crowded(&mut random, class);
+            on_table(bench, &mut random, &mut closest, table);
+        }
+        let table = tables::crowded(&mut random, LONGEST);
         on_table(bench, &mut random, &mut closest, table);
     }
     closest.print();
@@ -35,8 +44,8 @@ pub fn run(bench: &mut Bench) {
 fn on_table(bench: &mut Bench, random: &mut Random, closest: &mut Closest, table: Table) {
     let in_one_list = random.one_in(20);
     let mut driver = Driver::new(table.clone());
-    for (row, way) in hunts(&table) {
-        hunt(&mut driver, row, way);
+    for hunt in Hunt::all(&table) {
+        hunt.run(&mut driver);
         if !in_one_list {
             closest.see(&table, &bench.replay_played(&driver, 0));
             driver = Driver::new(table.clone());
@@ -47,42 +56,57 @@ fn on_table(bench: &mut Bench, random: &mut Random, closest: &mut Closest, table
     closest.see(&table, &bench.replay_played(&driver, 0));
 }
 
-/// Each row with each way to hold its frame up.
-fn hunts(table: &Table) -> Vec<(usize, Way)> {
-    let rows = table.rows.iter().enumerate();
-    let ways = |class| Way::of(class).iter();
-    rows.flat_map(|(place, row)| ways(row.class).map(move |way| (place, *way)))
-        .collect()
-}
-
 /// The ages that came closest to their bounds: in A, in B where there is no
-/// row of A, and in B behind A.
+/// row of A, and in B behind A; then the same of frames that ended with another
+/// frame of their row in the port.
 #[derive(Default)]
 struct Closest {
-    ages: [(u64, u64); 3],
+    ages: [(u64, u64); 6],
     frames: u64,
+    /// The frames that ended with another of their row in the port.
+    beside: u64,
+    /// The most frames of a row and of a class that were in the port at once.
+    most: usize,
+    most_in_class: usize,
 }
 
-const KINDS: [&str; 3] = ["A", "B alone", "B behind A"];
+const KINDS: [&str; 6] = [
+    "A",
+    "B alone",
+    "B behind A",
+    "A, beside another of its row",
+    "B alone, beside another of its row",
+    "B behind A, beside another of its row",
+];
 
 impl Closest {
-    fn see(&mut self, table: &Table, frames: &[Reported]) {
+    fn see(&mut self, table: &Table, played: &Played) {
         let some_a = table.rows.iter().any(|row| row.class == Class::A);
-        for &Reported { row, age, bound } in frames {
-            self.frames += 1;
-            let kind = match table.rows[row].class {
+        for frame in &played.reported {
+            let kind = match table.rows[frame.row].class {
                 Class::A => 0,
                 Class::B => 1 + usize::from(some_a),
             };
-            let closest = &mut self.ages[kind];
-            if age * closest.1 >= closest.0 * bound {
-                *closest = (age, bound);
+            let (age, bound) = (frame.age, played.bounds[frame.row]);
+            self.frames += 1;
+            nearer(&mut self.ages[kind], age, bound);
+            if frame.together > 1 {
+                self.beside += 1;
+                nearer(&mut self.ages[kind + 3], age, bound);
             }
+        }
+        let most = played.most.iter().copied().max();
+        self.most = self.most.max(most.unwrap_or(0));
+        for most in played.most_in_class {
+            self.most_in_class = self.most_in_class.max(most);
         }
     }
 
     fn print(&self) {
-        println!("{} frames of rows, none older than its bound", self.frames);
+        let (frames, beside) = (self.frames, self.beside);
+        println!("{frames} frames of rows, none older than its bound; {beside} beside another");
+        let (most, most_in_class) = (self.most, self.most_in_class);
+        println!("at most {most} frames of a row in the port, and {most_in_class} of a class");
         for (kind, (age, bound)) in KINDS.iter().zip(self.ages) {
             let ratio = age as f64 / bound as f64;
             println!("closest in {kind}: {age} of {bound} byte-times, {ratio:.4}");
@@ -94,5 +118,12 @@ impl Closest {
         for (age, bound) in self.ages {
             assert!(age * 100 > bound * 97, "{age} is far from {bound}");
         }
+    }
+}
+
+/// Keeps the age that is nearer to its bound.
+fn nearer(closest: &mut (u64, u64), age: u64, bound: u64) {
+    if age * closest.1 >= closest.0 * bound {
+        *closest = (age, bound);
     }
 }

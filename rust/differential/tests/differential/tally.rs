@@ -4,7 +4,7 @@ use std::iter;
 
 /// The numbers of the documents' refusals, and of bytes that do not fit.
 fn refusals() -> impl Iterator<Item = usize> {
-    (1..=19).chain(101..=103)
+    (1..=20).chain(101..=103)
 }
 
 /// How often each number was seen from the product, 0 where it did not refuse.

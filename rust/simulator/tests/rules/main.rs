@@ -1,5 +1,6 @@
 //! The simulator held to the scope's rules and numbers.
 
+mod crowds;
 mod document;
 mod frames;
 mod random;

@@ -2,8 +2,10 @@
 
 use std::collections::BTreeSet;
 
+use cases::crowds;
 use cases::driver::Driver;
 use cases::files::damaged;
+use cases::hunt::Hunt;
 use cases::ports;
 use cases::random::Random;
 use cases::rates;
@@ -13,7 +15,7 @@ use cases::traffic::{any_call, dense_calls, random_calls};
 use cases::watch::Watch;
 use simulator::port::CLAUSES;
 use simulator::refusal::refuse;
-use simulator::{bounds, broken, portrun, read, write, Advance, Mark, Refusal};
+use simulator::{bounds, broken, portrun, read, write, Advance, Class, Mark, Refusal, Table};
 
 /// The longest period of a table in dense traffic.
 const LONGEST: u64 = 200_000;
@@ -33,11 +35,9 @@ fn dense_lists_keep_the_promise() {
         let steps = driver.calls.into_iter().zip(driver.answers);
         assert_eq!(watch.see_all(steps), Ok(()));
         assert_eq!(watch.clock, driver.port.clock);
-        reported += watch.ages.len();
-        let ages = watch
-            .ages
-            .iter()
-            .map(|(row, age)| age * 1000 / bounds[*row]);
+        reported += watch.reported.len();
+        let ages = watch.reported.iter();
+        let ages = ages.map(|frame| frame.age * 1000 / bounds[frame.row]);
         closest = ages.max().unwrap_or(0).max(closest);
     }
     println!("{reported} frames reported, the oldest at {closest}/1000 of its bound");
@@ -45,12 +45,51 @@ fn dense_lists_keep_the_promise() {
     assert!(closest > 950);
 }
 
+/// Rows with several frames in the port, hunted for the oldest of them.
+#[test]
+fn several_frames_of_a_row_keep_the_promise() {
+    let mut random = Random::new(6);
+    let (mut beside, mut most, mut closest) = (0, 0, 0);
+    let random_tables = (0..60).flat_map(|_| {
+        let tight = [Class::A, Class::B].map(|class| tables::tight_crowded(&mut random, class));
+        tight
+            .into_iter()
+            .chain([tables::crowded(&mut random, LONGEST)])
+    });
+    let tables: Vec<Table> = crowds::all().into_iter().chain(random_tables).collect();
+    for table in tables {
+        let bounds = bounds(&table).unwrap();
+        for hunt in Hunt::all(&table) {
+            let mut driver = Driver::new(table.clone());
+            hunt.run(&mut driver);
+            assert_eq!(broken(&driver.port), None);
+            let mut watch = Watch::new(&table, &bounds);
+            let steps = driver.calls.into_iter().zip(driver.answers);
+            assert_eq!(watch.see_all(steps), Ok(()));
+            let frames = watch.reported.iter().filter(|frame| frame.together > 1);
+            let ages = frames.map(|frame| frame.age * 1000 / bounds[frame.row]);
+            closest = ages.clone().max().unwrap_or(0).max(closest);
+            beside += ages.count();
+            most = watch.most.into_iter().max().unwrap_or(0).max(most);
+        }
+    }
+    println!("{beside} frames beside another of their row, the oldest at {closest}/1000 of its bound; at most {most} at once");
+    assert!(beside > 20_000 && closest > 980);
+    assert!(most > 55);
+}
+
 #[test]
 fn a_broken_record_refuses_every_call() {
     let mut random = Random::new(5);
     let mut seen = BTreeSet::new();
     for _ in 0..500 {
-        let sound = ports::reached(&mut random);
+        let sound = match random.below(2) {
+            0 => ports::reached(&mut random),
+            _ => {
+                let table = tables::lively(&mut random);
+                ports::made_up(&mut random, table)
+            }
+        };
         assert_eq!(broken(&sound), None);
         for _ in 0..100 {
             let mut port = sound.clone();

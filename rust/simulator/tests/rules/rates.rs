@@ -84,7 +84,6 @@ fn opening_judges_by_the_rounded_period() {
         table.rows[1].deadline = deadline;
     };
     refused_open(|table| deadline(table, 0), 5, 1);
-    refused_open(|table| deadline(table, 17_007), 5, 1);
     refused_open(|table| deadline(table, 3_141), 10, 1);
     let mut table = table();
     deadline(&mut table, 17_006);
@@ -268,11 +267,12 @@ fn reading_5_and_6_of_a_rated_rows_deadline() {
     };
     for (rate, samples) in [(44_100, 6), (200_000, 1), (1_000, 255), (48_000, 6)] {
         let period = period(samples.into(), rate.into()) as u32;
-        reads(1, rate, samples);
-        reads(period - 1, rate, samples);
+        for deadline in [1, period - 1, period + 1, 1_000_000_000] {
+            reads(deadline, rate, samples);
+        }
         refused_read(&with_deadline(0, rate, samples), 5, 16);
         refused_read(&with_deadline(period, rate, samples), 6, 16);
-        refused_read(&with_deadline(period + 1, rate, samples), 5, 16);
+        refused_read(&with_deadline(1_000_000_001, rate, samples), 5, 16);
         refused_read(&with_deadline(u32::MAX, rate, samples), 5, 16);
     }
     // The class's default period is nothing to a rated row.

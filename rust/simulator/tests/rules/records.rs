@@ -67,9 +67,10 @@ fn table_not_accepted() {
     let rate = |port: &mut Port, rate| port.table.rows[0].pace = Pace::Rated { rate, samples: 6 };
     is_broken(name, |port| rate(port, 0));
     is_broken(name, |port| rate(port, 999));
-    // 6 at 48,000 give row 0's deadline, 15,625, and less at 48,001.
     is_sound(|port| rate(port, 48_000));
-    is_broken(name, |port| rate(port, 48_001));
+    // 3,750 byte-times, less than the deadline.
+    is_sound(|port| rate(port, 200_000));
+    is_broken(name, |port| rate(port, 200_001));
 }
 
 #[test]
@@ -212,8 +213,8 @@ fn an_instant_after_the_clock() {
 }
 
 #[test]
-fn a_row_with_two_frames() {
-    let name = "a row has two frames";
+fn a_row_with_too_many_frames() {
+    let name = "a row has too many frames";
     is_broken(name, |port| port.queue_a.push_back(frame(1, 300, 960)));
     is_broken(name, |port| port.queue_a.push_back(frame(0, 100, 950)));
     is_broken(name, |port| {
@@ -224,7 +225,7 @@ fn a_row_with_two_frames() {
 
 #[test]
 fn a_frame_not_of_the_last_instant() {
-    let name = "a row's frame wasn't taken at the row's last instant";
+    let name = "a row's newest frame wasn't taken at the row's last instant";
     is_broken(name, |port| port.last[1] = None);
     is_broken(name, |port| port.last[1] = Some(961));
     is_broken(name, |port| port.last[2] = Some(969));

@@ -99,12 +99,17 @@ fn reading_5_out_of_range() {
     assert!(read(&one_row(&[0x02, 0x3B, 0x9A, 0xCA, 0x00])).is_ok());
     refused_read(&one_row(&[0x02, 0x3B, 0x9A, 0xCA, 0x01]), 5, 16);
     refused_read(&one_row(&[0x02, 0xFF, 0xFF, 0xFF, 0xFF]), 5, 16);
-    // Deadlines: 0, 1 and one above the default period 15,625 (3D09).
+    // Deadlines: 0, 1, 1,000,000,000 and one more.
     refused_read(&one_row(&[0x04, 0, 0, 0, 0]), 5, 16);
     assert!(read(&one_row(&[0x04, 0, 0, 0, 1])).is_ok());
-    refused_read(&one_row(&[0x04, 0, 0, 0x3D, 0x0A]), 5, 16);
-    // Deadline above the stated period.
-    refused_read(&one_row(&[0x06, 0, 0, 0, 84, 0, 0, 0, 85]), 5, 20);
+    assert!(read(&one_row(&[0x04, 0x3B, 0x9A, 0xCA, 0x00])).is_ok());
+    refused_read(&one_row(&[0x04, 0x3B, 0x9A, 0xCA, 0x01]), 5, 16);
+    refused_read(&one_row(&[0x04, 0xFF, 0xFF, 0xFF, 0xFF]), 5, 16);
+    refused_read(
+        &one_row(&[0x06, 0, 0, 0, 84, 0x3B, 0x9A, 0xCA, 0x01]),
+        5,
+        20,
+    );
 }
 
 #[test]
@@ -198,7 +203,8 @@ fn opening_5_out_of_range() {
     refused_open(|table| period(table, 83), 5, 1);
     refused_open(|table| period(table, 1_000_000_001), 5, 1);
     refused_open(|table| table.rows[2].deadline = 0, 5, 2);
-    refused_open(|table| table.rows[2].deadline = 31_251, 5, 2);
+    refused_open(|table| table.rows[2].deadline = 1_000_000_001, 5, 2);
+    refused_open(|table| table.rows[2].deadline = u64::MAX, 5, 2);
     refused_open(|table| table.rows[2].payload = u64::MAX, 5, 2);
     // Header first, then the lowest row.
     refused_open(

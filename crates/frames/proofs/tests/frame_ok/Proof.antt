@@ -1,6 +1,8 @@
--- `frames::tests::frame_ok` meets its contract: the row's place, its last instant and its limit are those at its number.
+-- `frames::tests::frame_ok` meets its contract: the row's place and its limit are those at its number.
+use borrow.Kind.Array.{good-length, eInt}
+use mir.Syntax.{w64}
+use Rattle.table.specs.Limits.{mostRows}
 use Rattle.table.proofs.Laws as table
-use Rattle.machine.proofs.Places.{last-places}
 use Rattle.frames.proofs.Naming.{no-row, no-place, row-here}
 use borrow.Author.Needs.{needs}
 use Rattle.frames.proofs.tests.frame_ok.Statement.{statement}
@@ -10,24 +12,18 @@ cast-k : tie.Need-cast-k
 cast-k c = search needs
 
 returns : tie.Need-returns
-returns c = no-row _ _ _ _ _ _ (c .if1 .taken)
+returns c = no-row _ _ _ _ _ (c .if1 .taken)
 
 returns-2 : tie.Need-returns-2
 returns-2 c =
     let s = c .before .before .before in
-    no-place _ (s .args .t3) _ (s .args .t5) _ _ (last-places (s .args .t5) _ (s .good .1 .1 .1 .1 .0)) (c .if2 .taken)
+    no-place _ (s .args .t3) (s .args .t4) _ _ (good-length (eInt w64) mostRows (s .args .t4) _ (s .good .1 .1 .1 .0)) (c .if2 .taken)
 
 mul-row : tie.Need-mul-row
 mul-row c = search needs
 
 element-copy-out-row : tie.Need-element-copy-out-row
 element-copy-out-row c = search needs
-
-mul-l : tie.Need-mul-l
-mul-l c = search needs
-
-array-copy-out-l : tie.Need-array-copy-out-l
-array-copy-out-l c = search needs
 
 mul-limit : tie.Need-mul-limit
 mul-limit c = search needs
@@ -40,8 +36,8 @@ row-frame-ok-requires c κs = search needs
 
 returns-3 : tie.Need-returns-3
 returns-3 c =
-    let s = c .before .before .before .before .before .before in
-    row-here _ (s .args .t3) _ (s .args .t5) _ _ (table.places (s .args .t3) _ (s .good .1 .1 .0)) (last-places (s .args .t5) _ (s .good .1 .1 .1 .1 .0)) (c .before .before .before .before .if1 .left) (c .before .before .before .if2 .left) (c .row-frame-ok .ensures)
+    let s = c .before .before .before .before .before in
+    row-here _ (s .args .t3) _ _ _ (table.places (s .args .t3) _ (s .good .1 .1 .0)) (c .before .before .before .if1 .left) (c .before .before .if2 .left) (c .row-frame-ok .ensures)
 
 pub frame-ok-spec : {M : Type 1} → statement M
 frame-ok-spec =
@@ -52,8 +48,6 @@ frame-ok-spec =
     returns-2
     mul-row
     element-copy-out-row
-    mul-l
-    array-copy-out-l
     mul-limit
     array-read-limit
     row-frame-ok-requires

@@ -15,7 +15,7 @@ use Rattle.machine.specs.State.{instantOf, view}
 use Rattle.machine.specs.Record.{sound}
 use Rattle.machine.specs.Calls.{tooSoon, early}
 use Rattle.machine.proofs.Places.{Places, zeroLast, port-places}
-use Rattle.offers.proofs.Judged.{broken, no-such-row, too-large, too-early, passes, few-rows, row-count, in-use, row-is, not-after, early-is, room-a, room-b, row-refused, row-accepted}
+use Rattle.offers.proofs.Judged.{broken, no-such-row, too-large, too-early, passes, few-rows, row-count, in-use, row-is, not-after, early-is, room, row-refused, row-accepted}
 use borrow.Author.Needs.{needs}
 use Rattle.offers.proofs.offers.offer.Statement.{statement}
 use Rattle.offers.proofs.offers.offer.Tie as tie
@@ -113,7 +113,7 @@ row-taken-requires c κs =
     let e = c .before .before .before .before .before .before in
     let ok = sound-here (e .before .before) in
     let long = places-here (e .before .before .before .before) in
-    (few-rows (port e) ok, (e .if2 .left, (room-a (port e) ok long (row e) (e .if2 .left) (late-here c), room-b (port e) ok long (row e) (e .if2 .left) (late-here c))))
+    (few-rows (port e) ok, (e .if2 .left, room (port e) ok long (row e) (e .if2 .left) (late-here c)))
 
 returns-5 : tie.Need-returns-5
 returns-5 c =

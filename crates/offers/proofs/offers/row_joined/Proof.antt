@@ -1,5 +1,5 @@
 -- `offers::offers::row_joined` meets its contract: in either class the queue has the frame and the row its instant.
-use Prim.Native.Nat.{_≤_, _<_}
+use Prim.Native.Nat.{ℕ, _≤_, _<_}
 use mathlib.Core.Bool.{true}
 use mathlib.Core.List.{[], _∷_, _++_}
 use mathlib.Core.Path.{_≡_, refl}
@@ -9,10 +9,11 @@ use Rattle.table.specs.declared.Class.the-variants.{A, B}
 use Rattle.machine.specs.declared.Frame.{Frame}
 use Rattle.machine.specs.declared.Queue.{Queue}
 use Rattle.machine.specs.declared.Port.{Port}
+use Rattle.machine.specs.Limits.{classPlaces}
 use Rattle.machine.specs.State.{queue, waiting, view}
 use Rattle.machine.specs.Calls.{joined}
 use Rattle.offers.proofs.Waits.{instant-set}
-use Rattle.machine.proofs.Places.{port-places}
+use Rattle.machine.proofs.Places.{waiting-length, port-places}
 use Rattle.machine.specs.Calls.{Became}
 use borrow.Author.Needs.{needs}
 use Rattle.offers.proofs.offers.row_joined.Statement.{statement}
@@ -28,6 +29,16 @@ unfolding view
 joins A p f q few h j = record { port = rw (j, instant-set (p .last) (p .table .count) (f .source) (record { known = true; taken = f .taken }) few h) refl; table = refl }
 joins B p f q few h j = record { port = rw (j, instant-set (p .last) (p .table .count) (f .source) (record { known = true; taken = f .taken }) few h) refl; table = refl }
 
+-- a class's queue in the record
+abbrev countOf : Class → Port → ℕ
+countOf A p = p .a .count
+countOf B p = p .b .count
+
+room : (d : Class) (p : Port) → length (queue d (view p)) < classPlaces → countOf d p < classPlaces
+unfolding view
+room A p h = rw (waiting-length (p .a .count) (p .a .frames)) at h
+room B p h = rw (waiting-length (p .b .count) (p .b .frames)) at h
+
 cast-k : tie.Need-cast-k
 cast-k c = search needs
 
@@ -41,13 +52,17 @@ enum-told : tie.Need-enum-told
 enum-told c = search needs
 
 pushed-requires : tie.Need-pushed-requires
-pushed-requires c κs = search needs
+pushed-requires c κs =
+    let s = c .before .before .before .before in
+    room A (s .args .p) (rw (c .before .enum-told .given .1) at (s .pre .1 .1))
 
 enum-told-2 : tie.Need-enum-told-2
 enum-told-2 c = search needs
 
 pushed-requires-2 : tie.Need-pushed-requires-2
-pushed-requires-2 c κs = search needs
+pushed-requires-2 c κs =
+    let s = c .before .before .before .before in
+    room B (s .args .p) (rw (c .before .enum-told2 .given .1) at (s .pre .1 .1))
 
 few : (s : tie.Start) → s .args .p .table .count ≤ length (s .args .p .last)
 few s = rw (port-places (s .args .p) _ (s .good .0) .last) (s .pre .0)

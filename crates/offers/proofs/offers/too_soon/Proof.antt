@@ -36,7 +36,7 @@ period-requires c κs = search needs
 returns-2 : tie.Need-returns-2
 returns-2 c =
     let l = c .before .before .before .before .args .l in
-    by-period l _ (not-false (l .known) (c .before .before .if1 .left)) _ _ (c .period .ensures)
+    by-period l _ (not-false (l .known) (c .before .before .if1 .left)) _ _ (c .period .ensures .0)
 
 pub too-soon-spec : {M : Type 1} → statement M
 too-soon-spec = tie.close (tie.spec returns sub-result period-requires returns-2)

@@ -1,20 +1,25 @@
--- `planner::acceptance::timely_plan` meets its contract: with the other checks passed, the first late row decides.
-use Prim.Native.Nat.{_≤_}
+-- `planner::acceptance::timely_plan` meets its contract: with the other checks passed, the first late row decides, and then a class with more frames than places.
+use Prim.Native.Nat.{ℕ, _≤_, _<_}
+use mathlib.Core.Bool.{true, false}
 use mathlib.Core.Path.{_≡_, refl}
+use borrow.Author.Tests.{le-leb, lt-leb}
+use lib.ListN.{length}
+use Rattle.table.specs.declared.Class.{Class}
 use Rattle.table.specs.declared.Class.the-variants.{A, B}
 use Rattle.table.specs.declared.Table.{Table}
-use Rattle.table.specs.declared.Refusal.the-variants.{Deadline}
-use Rattle.table.specs.Limits.{mostRows}
-use Rattle.table.specs.Rows.{Contents, contents}
+use Rattle.table.specs.declared.Refusal.the-variants.{Deadline, Frames}
+use Rattle.table.specs.Limits.{mostRows, classPlaces}
+use Rattle.table.specs.Rows.{Contents, rowsOf, contents}
 use Rattle.table.proofs.Laws.{rows-length, ranged-if}
 use Rattle.planner.specs.declared.Figures.{Figures}
 use Rattle.planner.specs.declared.Lane.{Lane}
 use Rattle.planner.specs.Sums.{bestSize}
-use Rattle.planner.specs.Bound.{blocking}
+use Rattle.planner.specs.Bound.{blocking, mostIn}
+use Rattle.planner.specs.Opening.{roomOk}
 use Rattle.planner.specs.Plan.{laneOf}
 use Rattle.planner.specs.Steps.{figuresOf, laneA, laneB, Passed}
 use Rattle.planner.proofs.Checks.{slope-limits}
-use Rattle.planner.proofs.Verdicts.{refused-right, accepted-right, by-deadline, by-none}
+use Rattle.planner.proofs.Verdicts.{refused-right, accepted-right, by-deadline, by-room-a, by-room-b, by-none}
 use borrow.Author.Needs.{needs}
 use Rattle.planner.proofs.acceptance.timely_plan.Statement.{statement}
 use Rattle.planner.proofs.acceptance.timely_plan.Tie as tie
@@ -27,6 +32,14 @@ is-a t ea eb e = rw (e, ea, eb) refl
 is-b : (t : Contents) {a b : Figures} {l : Lane} → a ≡ figuresOf A t → b ≡ figuresOf B t → l ≡ laneB (t .header) a b → l ≡ laneOf B t
 unfolding blocking bestSize
 is-b t ea eb e = rw (e, ea, eb) refl
+
+crowded : (c : Class) (t : Contents) {n : ℕ} → n ≡ mostIn c t → classPlaces < n → roomOk c t ≡ false
+unfolding roomOk
+crowded c t e h = rw (← e) (lt-leb _ _ h)
+
+roomy : (c : Class) (t : Contents) {n : ℕ} → n ≡ mostIn c t → n ≤ classPlaces → roomOk c t ≡ true
+unfolding roomOk
+roomy c t e h = rw (← e) (le-leb _ _ h)
 
 few : (t : Table) → Passed (contents t) → t .count ≤ mostRows
 few t p = rw (rows-length t) at (ranged-if (contents t) (p .ranged) .most)
@@ -57,24 +70,51 @@ row-bounds-requires c κs =
       },
     )
 
-in-time-requires : tie.Need-in-time-requires
-in-time-requires c κs = (few _ (c .before .before .before .before .pre .1), c .row-bounds .ensures)
+judged-requires : tie.Need-judged-requires
+judged-requires c κs = (few _ (c .before .before .before .before .pre .1), c .row-bounds .ensures)
 
 refused-requires : tie.Need-refused-requires
 refused-requires c κs = search needs
 
 returns : tie.Need-returns
 returns c =
-    let f = c .before .before .before in
+    let f = c .before .before .before .before in
     let s = f .before .before .before .before .before in
-    refused-right _ (Deadline (f .in-time .result)) (by-deadline _ (s .pre .1) (f .in-time .ensures) (rw (rows-length (s .args .t)) (c .before .if1 .taken))) (c .refused .ensures)
+    refused-right _ (Deadline (f .judged .result .timely)) (by-deadline _ (s .pre .1) (f .judged .ensures .timely) (rw (rows-length (s .args .t)) (c .before .if1 .taken))) (c .refused .ensures)
+
+refused-requires-2 : tie.Need-refused-requires-2
+refused-requires-2 c κs = search needs
 
 returns-2 : tie.Need-returns-2
 returns-2 c =
-    let f = c .before .before in
+    let m = c .before .before .before in
+    let f = m .before .before .before in
+    let s = f .before .before .before .before .before in
+    let all : length (rowsOf (s .args .t)) ≤ f .judged .result .timely = rw (rows-length (s .args .t)) (m .if1 .left) in
+    refused-right _ (Frames A) (by-room-a _ (s .pre .1) (f .judged .ensures .timely) all (crowded A _ (f .judged .ensures .a all) (c .before .if2 .taken))) (c .refused2 .ensures)
+
+refused-requires-3 : tie.Need-refused-requires-3
+refused-requires-3 c κs = search needs
+
+returns-3 : tie.Need-returns-3
+returns-3 c =
+    let n = c .before .before .before in
+    let m = n .before .before in
+    let f = m .before .before .before in
+    let s = f .before .before .before .before .before in
+    let all : length (rowsOf (s .args .t)) ≤ f .judged .result .timely = rw (rows-length (s .args .t)) (m .if1 .left) in
+    refused-right _ (Frames B) (by-room-b _ (s .pre .1) (f .judged .ensures .timely) all (roomy A _ (f .judged .ensures .a all) (n .if2 .left)) (crowded B _ (f .judged .ensures .b all) (c .before .if3 .taken))) (c .refused3 .ensures)
+
+returns-4 : tie.Need-returns-4
+returns-4 c =
+    let n = c .before .before in
+    let m = n .before .before in
+    let f = m .before .before .before in
     let s = f .before .before .before .before .before in
     let p = s .pre .0 in
-    accepted-right _ (by-none _ (s .pre .1) (f .in-time .ensures) (rw (rows-length (s .args .t)) (c .if1 .left))) (is-a _ (p .is-a) (p .is-b) (f .before .before .before .lane-a .ensures .0)) (is-b _ (p .is-a) (p .is-b) (f .before .before .lane-b .ensures .0)) (f .before .row-bounds .ensures)
+    let all : length (rowsOf (s .args .t)) ≤ f .judged .result .timely = rw (rows-length (s .args .t)) (m .if1 .left) in
+    accepted-right _ (by-none _ (s .pre .1) (f .judged .ensures .timely) all (roomy A _ (f .judged .ensures .a all) (n .if2 .left)) (roomy B _ (f .judged .ensures .b all) (c .if3 .left)))
+    (is-a _ (p .is-a) (p .is-b) (f .before .before .before .lane-a .ensures .0)) (is-b _ (p .is-a) (p .is-b) (f .before .before .lane-b .ensures .0)) (f .before .row-bounds .ensures)
 
 pub timely-plan-spec : {M : Type 1} → statement M
 timely-plan-spec =
@@ -83,7 +123,11 @@ timely-plan-spec =
     lane-a-requires
     lane-b-requires
     row-bounds-requires
-    in-time-requires
+    judged-requires
     refused-requires
     returns
-    returns-2)
+    refused-requires-2
+    returns-2
+    refused-requires-3
+    returns-3
+    returns-4)

@@ -13,7 +13,7 @@ use Rattle.table.specs.Rows.{contents}
 use Rattle.planner.proofs.Laws as law
 use Rattle.machine.specs.declared.Frame.{Frame}
 use Rattle.machine.specs.declared.Port.{Port}
-use Rattle.machine.specs.State.{Instant, instantsOf, waiting, view}
+use Rattle.machine.specs.State.{waiting, view}
 use Rattle.machine.specs.Record.{allOf, onSending}
 use Rattle.frames.specs.Tests.{frameTest, bestTest, sendingTest}
 use Rattle.record.specs.Steps.{framesTest}
@@ -22,17 +22,14 @@ use borrow.Author.Needs.{needs}
 use Rattle.record.proofs.check.frames_ok.Statement.{statement}
 use Rattle.record.proofs.check.frames_ok.Tie as tie
 
-abbrev instants : Port → List Instant
-instants p = instantsOf (p .table .count) (p .last)
-
 abbrev queueOk : Class → List ℕ → Port → ℕ → List Frame → Bool
-queueOk k limits p n xs = allOf (frameTest k (contents (p .table)) limits (instants p) (p .clock)) (waiting n xs)
+queueOk k limits p n xs = allOf (frameTest k (contents (p .table)) limits (p .clock)) (waiting n xs)
 
 abbrev bestOk : Port → ℕ → Bool
 bestOk p most = allOf (bestTest most (p .clock)) (waiting (p .best .count) (p .best .frames))
 
 abbrev wireOk : List ℕ → Port → Bool
-wireOk limits p = onSending (sendingTest (contents (p .table)) limits (instants p) (p .clock)) (p .wire)
+wireOk limits p = onSending (sendingTest (contents (p .table)) limits (p .clock)) (p .wire)
 
 abbrev aOk : List ℕ → Port → Bool
 aOk limits p = queueOk A limits p (p .a .count) (p .a .frames)
@@ -78,7 +75,7 @@ queue-ok-requires c κs = search needs
 
 returns : tie.Need-returns
 returns c =
-    let s = c .before .before .before .before .before .before .before in
+    let s = c .before .before .before .before .before .before in
     let p = s .args .p in
     let limits = s .args .limits in
     a-fails limits p
@@ -90,7 +87,7 @@ queue-ok-requires-2 c κs = search needs
 returns-2 : tie.Need-returns-2
 returns-2 c =
     let ja = c .before .before .before .before .before in
-    let s = ja .before .before .before .before in
+    let s = ja .before .before .before in
     let p = s .args .p in
     let limits = s .args .limits in
     let of-a = ⊎-elim {C = aOk limits p ≡ true} (λ w. holds {t = aOk limits p} (w .2 .ensures) (w .3 .left)) (λ w. none _ _ _ (w .left)) (ja .if1 .came) in
@@ -107,7 +104,7 @@ returns-3 : tie.Need-returns-3
 returns-3 c =
     let jb = c .before .before .before .before .before .before in
     let ja = jb .before .before in
-    let s = ja .before .before .before .before in
+    let s = ja .before .before .before in
     let p = s .args .p in
     let limits = s .args .limits in
     let of-a = ⊎-elim {C = aOk limits p ≡ true} (λ w. holds {t = aOk limits p} (w .2 .ensures) (w .3 .left)) (λ w. none _ _ _ (w .left)) (ja .if1 .came) in
@@ -122,7 +119,7 @@ returns-4 : tie.Need-returns-4
 returns-4 c =
     let jb = c .before .before .before in
     let ja = jb .before .before in
-    let s = ja .before .before .before .before in
+    let s = ja .before .before .before in
     let p = s .args .p in
     let limits = s .args .limits in
     let of-a = ⊎-elim {C = aOk limits p ≡ true} (λ w. holds {t = aOk limits p} (w .2 .ensures) (w .3 .left)) (λ w. none _ _ _ (w .left)) (ja .if1 .came) in

@@ -1,23 +1,17 @@
 -- `record::check::parts_ok` meets its contract: a record that fails a test is broken, and one that passes the others is sound if its rows pass.
-use Prim.Native.Nat.{ℕ, _≤_}
+use Prim.Native.Nat.{ℕ}
 use mathlib.Core.Bool.{Bool, true, false, false≢true}
 use mathlib.Core.List.{List}
 use mathlib.Core.Path.{_≡_, refl, sym, _∙_}
-use Rattle.table.specs.declared.Table.{Table}
-use Rattle.table.specs.Limits.{mostRows}
 use Rattle.table.specs.Rows.{contents}
-use Rattle.table.specs.Checks.{accepted}
-use Rattle.table.proofs.Laws as table
 use Rattle.planner.specs.Bound.{bounds}
-use Rattle.planner.specs.Opening.{opening}
-use Rattle.planner.proofs.Laws as law
 use Rattle.machine.specs.declared.Port.{Port}
 use Rattle.machine.specs.State.{view}
 use Rattle.machine.proofs.Places.{port-places}
 use Rattle.table.proofs.Laws.{fails, holds}
 use Rattle.record.proofs.Parts.{broken, by-rows}
-use Rattle.record.specs.Steps.{framesTest}
-use Rattle.record.proofs.Viewed.{few-best, few-a, few-b, few-best-effort, accepted-table}
+use Rattle.record.specs.Steps.{framesTest, rowsTest}
+use Rattle.record.proofs.Viewed.{few, few-best, few-a, few-b, few-best-effort, accepted-table}
 use borrow.Author.Needs.{needs}
 use Rattle.record.proofs.check.parts_ok.Statement.{statement}
 use Rattle.record.proofs.check.parts_ok.Tie as tie
@@ -25,13 +19,14 @@ use Rattle.record.proofs.check.parts_ok.Tie as tie
 never-both : {x : Bool} → x ≡ false → x ≡ true → ⊥
 never-both e f = false≢true (sym e ∙ f)
 
-few : (t : Table) → opening (contents t) ≡ accepted → t .count ≤ mostRows
-few t e = rw (table.rows-length t) at (law.accepted-if (contents t) e .ranges .most)
-
 -- the limits are the table's bounds
 by-bounds : (p : Port) {limits : List ℕ} → limits ≡ bounds (contents (p .table)) → framesTest limits (view p) ≡ framesTest (bounds (view p .table)) (view p)
 unfolding view
 by-bounds p e = rw e refl
+
+rows-by-bounds : (p : Port) {limits : List ℕ} → limits ≡ bounds (contents (p .table)) → rowsTest limits (view p) ≡ rowsTest (bounds (view p .table)) (view p)
+unfolding view
+rows-by-bounds p e = rw e refl
 
 numbers-ok-requires : tie.Need-numbers-ok-requires
 numbers-ok-requires c κs = search needs
@@ -63,6 +58,7 @@ returns-3 c =
     let p = s .args .p in
     let fit = holds (c .before .before .frames-ok .ensures) (c .before .if2 .left) in
     c .rows-ok .ensures
+    ∙ rows-by-bounds p (s .pre .1 .1 .1)
     ∙ by-rows (view p) (accepted-table p (s .pre .0))
     (holds (c .before .before .before .before .numbers-ok .ensures) (c .before .before .before .if1 .left))
     (few-best p (few-best-effort p _ (port-places p _ (s .good .0)) fit))

@@ -49,7 +49,7 @@ returns c =
     let name = wire .before .before .before .before .before in
     let row = name .before .before .before .before .args in
     let fields = then (then (then (then (name .put-name .ensures) (wire .put-field .ensures)) (first .put-field2 .ensures)) (second .put-field3 .ensures)) (third .put-field4 .ensures) in
-    rw (row-text (row .number) (row .row) (row .bound) (wire .before .size .ensures .0) (first .before .period .ensures)) (then fields (text-put (end .put .ensures) (omega arith)))
+    rw (row-text (row .number) (row .row) (row .bound) (wire .before .size .ensures .0) (first .before .period .ensures .0)) (then fields (text-put (end .put .ensures) (omega arith)))
 
 pub put-row-spec : {M : Type 1} → statement M
 put-row-spec =

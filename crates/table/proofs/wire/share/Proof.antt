@@ -31,7 +31,7 @@ returns c =
     let p = c .before .period in
     let s = c .before .before .size in
     let small : c .ceil-div .result ≤ D * s .result = rw (c .ceil-div .ensures) (ceil-le _ _) in
-    (c .ceil-div .ensures ∙ whole _ (s .ensures .0) (p .ensures), omega arith)
+    (c .ceil-div .ensures ∙ whole _ (s .ensures .0) (p .ensures .0), omega arith)
 
 pub share-spec : {M : Type 1} → statement M
 share-spec = tie.close (tie.spec size-requires mul-ceil-div period-requires ceil-div-requires returns)

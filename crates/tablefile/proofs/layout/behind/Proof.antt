@@ -1,5 +1,5 @@
 -- `tablefile::layout::behind` meets its contract, whether the field stands or not.
-use mathlib.Core.Path.{_≡_, refl}
+use mathlib.Core.Path.{refl}
 use native.Mathlib.Nat.{add-zero}
 use native.Mathlib.Omega.{arith}
 use borrow.Author.Needs.{needs}

@@ -9,7 +9,7 @@ period-requires c κs = search needs
 
 returns : tie.Need-returns
 unfolding defaultDeadline
-returns c = c .period .ensures
+returns c = c .period .ensures .0
 
 pub default-deadline-spec : {M : Type 1} → statement M
 default-deadline-spec = tie.close (tie.spec period-requires returns)

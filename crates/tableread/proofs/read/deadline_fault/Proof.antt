@@ -1,9 +1,10 @@
--- `tableread::read::deadline_fault` meets its contract: a deadline that stands makes the row whole, and is tested for range and default; one that does not is not tested.
-use mathlib.Core.Path.{ap}
+-- `tableread::read::deadline_fault` meets its contract: a deadline that stands makes the row whole, and is tested for range and for the default, which goes by the pace; one that does not is not tested.
+use mathlib.Core.Path.{_∙_, ap}
 use lib.Dec.{eqb}
 use denote.Ref.{now}
 use borrow.Author.Needs.{needs}
 use Rattle.tablefile.specs.Layout.{Deadline}
+use Rattle.tablefile.proofs.Laws.{default-by-pace}
 use Rattle.tableread.proofs.Values.{deadline-stated}
 use Rattle.tableread.proofs.Faults.{judged-told}
 use Rattle.tableread.proofs.read.deadline_fault.Statement.{statement}
@@ -37,13 +38,13 @@ returns : tie.Need-returns
 returns c =
     let b = c .before .before in
     let d = b .before in
-    let v = d .before .before in
+    let v = d .before in
     let p = v .before in
     let s = p .before .before in
     let l = now (s .args .s) in
     let stands = b .deadline-stands .ensures in
     let place = p .deadline-place .ensures .0 in
-    judged-told Deadline l _ (s .pre .0 .0) stands place (deadline-stated l (s .pre .0 .0) stands place (s .pre .0 .1) (v .u32-at .ensures)) (c .before .deadline-ok .ensures) (ap (λ n. eqb (v .u32-at .result) n) (d .default-deadline .ensures)) (c .field-fault .ensures)
+    judged-told Deadline l _ (s .pre .0 .0) stands place (deadline-stated l (s .pre .0 .0) stands place (s .pre .0 .1) (v .u32-at .ensures)) (c .before .deadline-ok .ensures) (ap (λ n. eqb (v .u32-at .result) n) (d .default-deadline .ensures ∙ default-by-pace (s .args .paced) (v .u32-at .result))) (c .field-fault .ensures)
 
 pub deadline-fault-spec : {M : Type 1} → statement M
 deadline-fault-spec =

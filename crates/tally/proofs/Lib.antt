@@ -1,0 +1,6 @@
+-- Laws that belong to no one function. `Laws` is what the crates above may cite.
+mod Listed
+mod Notes
+mod Told
+mod Numbers
+pub mod Laws
