@@ -17,7 +17,7 @@
 
 /* The version of the bytes that this header speaks of: a record's first word. A
  * record of another version is answered ITHUMECO_BROKEN and never misread. */
-#define ITHUMECO_VERSION 1000003
+#define ITHUMECO_VERSION 1000004
 
 /* Sizes in bytes. */
 #define ITHUMECO_CALL_SIZE 24

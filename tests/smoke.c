@@ -3,7 +3,7 @@
 #include <string.h>
 #include "ithumeco.h"
 
-#define CALLS 2
+#define CALLS 3
 
 static int failures = 0;
 
@@ -35,9 +35,9 @@ static void files(void)
     expect("the copy differs", memcmp(file, copy, size) != 0, 0);
     expect("rewrite, too short", ithumeco_rewrite(file, size, copy, size - 1), ITHUMECO_SHORTER_THAN_FILE);
     expect("bounds", ithumeco_bounds(file, size, bounds, sizeof bounds), 0);
-    expect("bound of row 0", ithumeco_get_word(bounds, 0), 3742);
-    expect("bound of row 1", ithumeco_get_word(bounds, 1), 3142);
-    expect("bound of row 2", ithumeco_get_word(bounds, 2), 4856);
+    expect("bound of row 0", ithumeco_get_word(bounds, 0), 3730);
+    expect("bound of row 1", ithumeco_get_word(bounds, 1), 3130);
+    expect("bound of row 2", ithumeco_get_word(bounds, 2), 4844);
     expect("no row 3", ithumeco_get_word(bounds, 3), 0);
     expect("bounds, too short", ithumeco_bounds(file, size, bounds, sizeof bounds - 1), ITHUMECO_TOO_SHORT);
 }
@@ -66,7 +66,7 @@ static void refused_files(void)
     refused("a byte too many", 0, "", 0, size + 1, ITHUMECO_TRAILING, 28);
     refused("no slope for B", 8, "\0\0\0\0", 4, size, ITHUMECO_SLOPES, 0);
     refused("shares above the slope of A", 4, "\0\0\143\377", 4, size, ITHUMECO_SHARES, 0);
-    refused("a deadline below the bound", 21, "\0\0\14\105", 4, size, ITHUMECO_DEADLINE, 1);
+    refused("a deadline below the bound", 21, "\0\0\14\71", 4, size, ITHUMECO_DEADLINE, 1);
 }
 
 /* 32 rows that state a rate and every other field that may stand beside it: no file is larger. */
@@ -82,26 +82,32 @@ static void largest_file(void)
     expect("its copy differs", memcmp(large, again, sizeof large) != 0, 0);
 }
 
-/* A frame of 58 bytes to row 0, and an advance until it has ended: in a list, and one by one. */
+/* A frame of 58 bytes to row 0, an advance until it is reported ended, and one over the 12 bytes that are left of it then: in a list, and one by one. */
 static void runs(void)
 {
-    static const uint64_t list[CALLS][3] = {{ITHUMECO_OFFER, 0, 58}, {ITHUMECO_ADVANCE, 5000, 0}};
+    static const uint64_t list[CALLS][3] = {{ITHUMECO_OFFER, 0, 58}, {ITHUMECO_ADVANCE, 5000, 0}, {ITHUMECO_ADVANCE, 12, 0}};
     static uint8_t calls[CALLS * ITHUMECO_CALL_SIZE], answers[CALLS * ITHUMECO_ANSWER_SIZE];
     for (size_t i = 0; i < CALLS; i++)
         for (size_t k = 0; k < 3; k++)
             ithumeco_put_word(calls, 3 * i + k, list[i][k]);
     expect("replay", ithumeco_replay(file, size, calls, sizeof calls, answers, sizeof answers), 0);
     expect("taken", ithumeco_get_word(answers, 2), ITHUMECO_NO_FRAME);
-    expect("ended after", ithumeco_get_word(answers, 6), 100);
-    expect("row that ended", ithumeco_get_word(answers, 7), 0);
+    expect("reported after", ithumeco_get_word(answers, 6), 88);
+    expect("row that is reported", ithumeco_get_word(answers, 7), 0);
+    expect("its other bytes", ithumeco_get_word(answers, 11), 12);
+    expect("reported once", ithumeco_get_word(answers, 12), ITHUMECO_NO_FRAME);
     expect("replay, too short", ithumeco_replay(file, size, calls, sizeof calls, answers, sizeof answers - 1), ITHUMECO_TOO_SHORT);
     expect("replay, not whole", ithumeco_replay(file, size, calls, 23, answers, sizeof answers), ITHUMECO_NOT_WHOLE_CALLS);
 
+    static const uint64_t marks[CALLS] = {0, 1, 0};
     expect("open", ithumeco_open(file, size, record, sizeof record), 0);
     expect("version", ithumeco_get_word(record, 0), ITHUMECO_VERSION);
     for (size_t i = 0; i < CALLS; i++) {
         expect("one by one", made(list[i][0], list[i][1], list[i][2]), 0);
         expect("the answer differs", memcmp(answer, answers + i * ITHUMECO_ANSWER_SIZE, sizeof answer) != 0, 0);
+        expect("a frame on the wire", ithumeco_get_word(record, 699), marks[i]);
+        if (marks[i] == 1)
+            expect("its bytes left", ithumeco_get_word(record, 703), 12);
     }
     expect("clock", ithumeco_get_word(record, ITHUMECO_CLOCK_WORD), 100);
     expect("credit of A", ithumeco_get_word(record, ITHUMECO_CREDIT_A_WORD), (uint64_t)-75000000);
@@ -125,8 +131,9 @@ static void rated(void)
     for (size_t k = 0; k < 6; k++)
         expect("a word of row 0", ithumeco_get_word(record, 5 + k), words[k]);
     expect("taken", made(ITHUMECO_OFFER, 0, 58), 0);
-    expect("its end", made(ITHUMECO_ADVANCE, 100, 0), 0);
-    expect("time passes", made(ITHUMECO_ADVANCE, 16905, 0), 0);
+    expect("its report", made(ITHUMECO_ADVANCE, 100, 0), 0);
+    expect("after", ithumeco_get_word(answer, 1), 88);
+    expect("time passes", made(ITHUMECO_ADVANCE, 16917, 0), 0);
     expect("early", made(ITHUMECO_OFFER, 0, 58), ITHUMECO_EARLY);
     expect("one byte-time more", made(ITHUMECO_ADVANCE, 1, 0), 0);
     expect("in time", made(ITHUMECO_OFFER, 0, 58), 0);
@@ -177,7 +184,7 @@ static void refusals(void)
 {
     expect("open", ithumeco_open(file, size, record, sizeof record), 0);
     expect("best effort", made(ITHUMECO_OFFER_BEST, 1500, 0), 0);
-    expect("its end", made(ITHUMECO_ADVANCE, ITHUMECO_MOST_ADVANCE, 0), 0);
+    expect("its report", made(ITHUMECO_ADVANCE, ITHUMECO_MOST_ADVANCE, 0), 0);
     expect("its mark", ithumeco_get_word(answer, 2), ITHUMECO_BEST_EFFORT);
     expect("no such row", made(ITHUMECO_OFFER, 3, 0), ITHUMECO_NO_SUCH_ROW);
     expect("payload", made(ITHUMECO_OFFER, 0, 59), ITHUMECO_PAYLOAD);
@@ -195,6 +202,8 @@ static void refusals(void)
     expect("past it", made(ITHUMECO_ADVANCE, 1, 0), ITHUMECO_PAST_LAST_CLOCK);
     ithumeco_put_word(record, 0, ITHUMECO_VERSION + 1);
     expect("another version", made(ITHUMECO_ADVANCE, 0, 0), ITHUMECO_BROKEN);
+    ithumeco_put_word(record, 0, ITHUMECO_VERSION - 1);
+    expect("the version before", made(ITHUMECO_ADVANCE, 0, 0), ITHUMECO_BROKEN);
 }
 
 /* NULL where there are no bytes: not promised, but so it is. */

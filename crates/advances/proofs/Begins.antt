@@ -1,5 +1,5 @@
 -- What a sound port has for the byte-times on its numbers, and what they leave.
-use Prim.Native.Nat.{ℕ, suc, _-_, _*_, _≤_}
+use Prim.Native.Nat.{ℕ, suc, _*_, _≤_}
 use mathlib.Core.Bool.{Bool, true, false, cond, _&&_, false≢true}
 use mathlib.Core.List.{List, [], _∷_}
 use mathlib.Core.Path.{_≡_, refl, sym, _∙_, ap}
@@ -18,13 +18,12 @@ use Rattle.planner.specs.Sums.{idle, send, largest, bestSize}
 use Rattle.planner.specs.Bound.{blocking}
 use Rattle.planner.proofs.Laws as law
 use Rattle.machine.specs.declared.Frame.{Frame}
-use Rattle.machine.specs.declared.Wire.the-variants.{Sending}
 use Rattle.machine.specs.declared.Queue.{Queue}
 use Rattle.machine.specs.declared.Port.{Port}
 use Rattle.machine.specs.Limits.{lastClock, mostSteps, classPlaces, bestPlaces}
 use Rattle.machine.specs.State.{State, credit, queue, waiting, view}
 use Rattle.machine.specs.Time.{shaped, unshaped, owner, progress}
-use Rattle.machine.specs.Record.{allOf, between, namesRow, isBest, rowIn, sizeWithin, rowSize, clockSound, creditSound, bestSound, namesSound, queuesSound, sizesSound, leftSound, sound}
+use Rattle.machine.specs.Record.{allOf, between, namesRow, isBest, rowIn, sizeWithin, rowSize, clockSound, creditSound, bestSound, namesSound, queuesSound, sizesSound, sound}
 use Rattle.machine.proofs.FromSound.{Clauses, clauses, is-accepted}
 use Rattle.machine.proofs.Places.{Places, waiting-length, too-many}
 use Rattle.bytetime.specs.declared.Hot.{Hot}
@@ -80,14 +79,8 @@ module _ (s : State) (c : Clauses s) where
       let rest = table.and-true (allOf (rowSize (s .table)) (s .a) && allOf (rowSize (s .table)) (s .b)) _ (c .sizes) .1 in
       best-head (s .best) (table.and-true (allOf (rowIn A (s .table)) (s .a) && allOf (rowIn B (s .table)) (s .b)) _ (c .queues) .1) (bestSize (s .table)) (table.and-true (allOf (sizeWithin (bestSize (s .table))) (s .best)) _ rest .0)
 
-  some-left : (f : Frame) (left : ℕ) → s .wire ≡ Sending f left → 1 ≤ left
-  unfolding leftSound
-  some-left f left e =
-      let t : (leb 1 left && leb left (f .size)) ≡ true = rw e at (c .left) in
-      leb-true 1 left (table.and-true (leb 1 left) (leb left (f .size)) t .0)
-
   fits : Fits s
-  fits = record { a = class-head A; b = class-head B; best = unshaped-head; left = some-left }
+  fits = record { a = class-head A; b = class-head B; best = unshaped-head }
 
   -- ---- the numbers are within reach
   closer : (low high : ℕ) (z : ℤ) → low ≤ reach → high ≤ reach → between low high z ≡ true → between reach reach z ≡ true

@@ -14,7 +14,7 @@ use Rattle.machine.specs.Calls.{passed, advanceAnswer, Became}
 use Rattle.bytetime.specs.declared.Sender.{Sender}
 use Rattle.bytetime.specs.declared.Hot.{Hot}
 use Rattle.bytetime.specs.declared.Ran.{Ran}
-use Rattle.bytetime.specs.Ports.{wireNow}
+use Rattle.bytetime.specs.Ports.{wireBy}
 
 -- A queue's head, by how many frames wait and the frame in the first place.
 abbrev pub headBy : ℕ → Frame → Frame
@@ -46,7 +46,7 @@ settledBy p ran f =
       b = p .b;
       best = p .best;
       last = p .last;
-      wire = wireNow (ran .hot .sender) f (ran .hot .left);
+      wire = wireBy (ran .hot .sender) f (ran .hot .left);
     }
 
 -- A refused advance: the record as it was.

@@ -29,8 +29,8 @@ fn refused(port: Port, d: Denial) -> AfterAdvance
     }
 }
 
-// An advance by n byte-times. The first check that fails decides: broken record, more than 65,535, past the last clock. Else byte-times pass until a frame ends or
-// n have passed, and a head that went out has left its queue. (With the second half in a function of its own a call copies 3 KB more.)
+// An advance by n byte-times. The first check that fails decides: broken record, more than 65,535, past the last clock. Else byte-times pass until a frame is
+// reported or n have passed, and a head that went out has left its queue. (With the second half in a function of its own a call copies 3 KB more.)
 pub fn advance(p: Port, n: u64) -> AfterAdvance
     ensures { λ r. ⌜ Advanced p n r ⌝ }
 {

@@ -5,7 +5,7 @@ ghost use Prim.Native.Nat.{_+_, _≤_};
 ghost use Rattle.machine.specs.declared.Ended.{Ended};
 ghost use Rattle.machine.specs.Limits.{lastClock};
 ghost use Rattle.machine.specs.State.{view};
-ghost use Rattle.bytetime.specs.Ports.{headFor, frameOn, frameOf, wireNow};
+ghost use Rattle.bytetime.specs.Ports.{headFor, frameOn, frameOf, wireBy};
 ghost use Rattle.advances.specs.Steps.{settledBy};
 use crate::heads::best_head;
 use crate::heads::head;
@@ -52,13 +52,10 @@ pub fn frame_of(p: Port, h: Hot) -> Frame
     frame_on(w)
 }
 
-// The wire: free if its frame has ended or none was on it.
+// The wire: free if nobody has it.
 fn wire_now(who: Sender, f: Frame, left: u32) -> Wire
-    ensures { λ r. ⌜ r ≡ wireNow who f left ⌝ }
+    ensures { λ r. ⌜ r ≡ wireBy who f left ⌝ }
 {
-    if left == 0 {
-        return Wire::Free;
-    }
     if is_nobody(who) {
         return Wire::Free;
     }
@@ -92,7 +89,7 @@ pub fn settled(p: Port, ran: Ran, f: Frame) -> Port
     }
 }
 
-// The frame that ended, if one did.
+// The frame that was reported ended, if one was.
 pub fn ended(has: bool, f: Frame) -> Ended
     ensures { λ r. ⌜ r ≡ cond has (Ended.Reported f) Ended.Nothing ⌝ }
 {

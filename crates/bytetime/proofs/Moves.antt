@@ -13,7 +13,7 @@ use Rattle.bytetime.specs.declared.Sender.the-variants.{Nobody, ClassA, 
 use Rattle.bytetime.specs.declared.Hot.{Hot}
 use Rattle.bytetime.specs.declared.Fixed.{Fixed}
 use Rattle.bytetime.specs.declared.Ran.{Ran}
-use Rattle.bytetime.specs.Bytes.{isA, isB, isNobody, readyBy, goesA, goesB, goesBest, nextBy, goes, onFree, startedHot, passedHot, tickHot, endedHot, furtherHot, onwardHot, startRan, runHot, Near}
+use Rattle.bytetime.specs.Bytes.{isA, isB, isNobody, readyBy, goesA, goesB, goesBest, nextBy, goes, onFree, startedHot, byteOff, isOver, freed, freedIfOver, passedHot, tickHot, endedHot, furtherHot, onwardHot, startRan, runHot, Near}
 use Rattle.bytetime.proofs.Signs.{plain, mag-after}
 
 -- ---- who goes out
@@ -74,15 +74,21 @@ pub near-started : {m : ℕ} {h : Hot} {x : Fixed} → Near m h x → Near m (st
 unfolding startedHot
 near-started {m} {h} {x} n = one-of (isNobody (h .sender)) (λ g. Near m g x) (near-free n) n
 
-near-passed : {m : ℕ} {h : Hot} {x : Fixed} → Near m h x → Near (m + (D + 1)) (passedHot h x) x
-unfolding passedHot
-near-passed {m} {h} {x} v =
+near-byte : {m : ℕ} {h : Hot} {x : Fixed} → Near m h x → Near (m + (D + 1)) (byteOff h x) x
+near-byte {m} {h} {x} v =
     record {
       idlea = v .idlea;
       idleb = v .idleb;
       credita = omega (arith, v .credita, mag-after (isA (h .sender)) (isA (h .sender) && leb 2 (h .left)) (h .waitsa) (x .idlea) (D - x .idlea) (h .credita) {most = D} (v .idlea) (omega arith));
       creditb = omega (arith, v .creditb, mag-after (isB (h .sender)) (isB (h .sender) && leb 2 (h .left)) (h .waitsb) (x .idleb) (D - x .idleb) (h .creditb) {most = D} (v .idleb) (omega arith));
     }
+
+near-freed : {m : ℕ} {h : Hot} {x : Fixed} → Near m h x → Near m (freed h) x
+near-freed v = record { idlea = v .idlea; idleb = v .idleb; credita = v .credita; creditb = v .creditb }
+
+near-passed : {m : ℕ} {h : Hot} {x : Fixed} → Near m h x → Near (m + (D + 1)) (passedHot h x) x
+unfolding passedHot freedIfOver
+near-passed {m} {h} {x} v = one-of (isOver (byteOff h x)) (λ g. Near (m + (D + 1)) g x) (near-freed (near-byte v)) (near-byte v)
 
 near-tick : {m : ℕ} {h : Hot} {x : Fixed} → Near m h x → Near (m + (D + 1)) (tickHot h x) x
 unfolding tickHot

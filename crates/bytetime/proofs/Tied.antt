@@ -1,14 +1,15 @@
 -- The numbers of byte-times stand for the machine's state, start after start and byte after byte.
-use Prim.Native.Nat.{ℕ, zero, suc, _+_, _-_, _≤_}
+use Prim.Native.Nat.{ℕ, zero, suc, _+_, _-_, _<_}
 use mathlib.Core.Bool.{Bool, true, false, cond, not, _&&_, true≢false, false≢true}
 use mathlib.Core.List.{List, [], _∷_}
 use mathlib.Core.Path.{_≡_, refl, sym, _∙_, ap}
 use native.Mathlib.Omega.{arith}
 use lib.IntN.{ℤ, pos, negsuc}
-use lib.Dec.{leb}
-use borrow.Author.Tests.{le-leb, lt-leb, leb-false, ne-eqb}
+use lib.Dec.{leb, eqb}
+use borrow.Author.Tests.{le-leb, lt-leb, leb-true, eq-eqb, ne-eqb, eqb-true, eqb-false}
 use Rattle.table.specs.declared.Class.{Class}
 use Rattle.table.specs.declared.Class.the-variants.{A, B}
+use Rattle.table.specs.Limits.{leftAtReport}
 use Rattle.table.specs.Rows.{Contents}
 use Rattle.planner.specs.Sums.{idle, send}
 use Rattle.machine.specs.declared.Frame.{Frame}
@@ -24,8 +25,8 @@ use Rattle.bytetime.specs.declared.Sender.the-variants.{Nobody, ClassA, 
 use Rattle.bytetime.specs.declared.Hot.{Hot}
 use Rattle.bytetime.specs.declared.Fixed.{Fixed}
 use Rattle.bytetime.specs.declared.Ran.{Ran}
-use Rattle.bytetime.specs.Bytes.{earnedWith, settledWith, creditAfter, isA, isB, isBest, isNobody, readyBy, goesA, goesB, goesBest, nextBy, goes, onFree, startedHot, leftAfter, passedHot, tickHot, endedHot, furtherHot, onwardHot, runHot}
-use Rattle.bytetime.specs.Ports.{some, headOf, fixedOf, senderBy, senderOn, leftOn, hotOf, frameOn, frameOf, wireBy, wireNow, queueAfter, afterRun, endedBy, Fits, AsMachine}
+use Rattle.bytetime.specs.Bytes.{earnedWith, settledWith, creditAfter, isA, isB, isBest, isNobody, readyBy, goesA, goesB, goesBest, nextBy, goes, onFree, startedHot, leftAfter, byteOff, isOver, freed, freedIfOver, passedHot, tickHot, endedHot, furtherHot, onwardHot, runHot}
+use Rattle.bytetime.specs.Ports.{some, headOf, fixedOf, senderBy, senderOn, leftOn, hotOf, frameOn, frameOf, wireBy, queueAfter, afterRun, endedBy, Fits, AsMachine}
 
 -- the sender of a frame, by its owner
 abbrev pub Owned : Sender → Owner → Type 0
@@ -95,30 +96,39 @@ one-byte f zero = refl
 one-byte f (suc zero) = refl
 one-byte f (suc (suc n)) = let e : suc (suc n) - 1 ≡ suc n = omega arith in rw (e, lt-leb (suc n) 0 (omega arith)) refl
 
-wire-after : (w : Sender) (f : Frame) (left : ℕ) → wireAfter (wireBy w f left) ≡ wireNow w f (leftAfter (isNobody w) left)
-wire-after Nobody f left = refl
-wire-after ClassA f left = one-byte f left
-wire-after ClassB f left = one-byte f left
-wire-after BestEffort f left = one-byte f left
+-- after its last byte nobody has the wire, and before that it is where it was
+wire-after : (w : Sender) (f : Frame) (left : ℕ) {over : Bool} → not (isNobody w) && leb (leftAfter (isNobody w) left) 0 ≡ over → wireAfter (wireBy w f left) ≡ cond over Free (wireBy w f (leftAfter (isNobody w) left))
+wire-after Nobody f left e = rw (← e) refl
+wire-after ClassA f left e = one-byte f left ∙ rw (← e) refl
+wire-after ClassB f left e = one-byte f left ∙ rw (← e) refl
+wire-after BestEffort f left e = one-byte f left ∙ rw (← e) refl
 
--- the frame that ends with the byte
-reported : (f : Frame) (left : ℕ) → 1 ≤ left → reportedIn (Sending f left) ≡ cond (leb (left - 1) 0) (Reported f) Nothing
+-- the frame that is reported with the byte
+at-report : (left : ℕ) → eqb left (suc leftAtReport) ≡ eqb (left - 1) leftAtReport
+at-report left = by-test (eqb (left - 1) leftAtReport) refl
+  where
+    by-test : (b : Bool) → eqb (left - 1) leftAtReport ≡ b → eqb left (suc leftAtReport) ≡ b
+    by-test true e = eq-eqb left (suc leftAtReport) (omega (arith, eqb-true (left - 1) leftAtReport e))
+    by-test false e = ne-eqb left (suc leftAtReport) (λ z. eqb-false (left - 1) leftAtReport e (omega (arith, z)))
+
+reported : (f : Frame) (left : ℕ) → reportedIn (Sending f left) ≡ cond (eqb (left - 1) leftAtReport) (Reported f) Nothing
 unfolding reportedIn
-reported f zero h = absurd (omega arith)
-reported f (suc zero) h = refl
-reported f (suc (suc n)) h =
-    let e : suc (suc n) - 1 ≡ suc n = omega arith in
-    rw (e, lt-leb (suc n) 0 (omega arith), ne-eqb (suc (suc n)) 1 (λ z. omega arith)) refl
+reported f left = rw (at-report left) refl
 
 none-reported : reportedIn Free ≡ Nothing
 unfolding reportedIn
 none-reported = refl
 
-ends : (w : Sender) (f : Frame) (left : ℕ) → not (isNobody w) && leb left 0 ≡ false → reportedIn (wireBy w f left) ≡ cond (not (isNobody w) && leb (leftAfter (isNobody w) left) 0) (Reported f) Nothing
-ends Nobody f left e = none-reported
-ends ClassA f left e = reported f left (leb-false left 0 e)
-ends ClassB f left e = reported f left (leb-false left 0 e)
-ends BestEffort f left e = reported f left (leb-false left 0 e)
+ends : (w : Sender) (f : Frame) (left : ℕ) → reportedIn (wireBy w f left) ≡ cond (not (isNobody w) && eqb (leftAfter (isNobody w) left) leftAtReport) (Reported f) Nothing
+ends Nobody f left = none-reported
+ends ClassA f left = reported f left
+ends ClassB f left = reported f left
+ends BestEffort f left = reported f left
+
+-- a frame is not reported with its last byte
+over-silent : (b : Bool) (left : ℕ) → b && leb left 0 ≡ true → b && eqb left leftAtReport ≡ false
+over-silent true left e = ne-eqb left leftAtReport (λ z. absurd (omega (arith, z, leb-true left 0 e)))
+over-silent false left e = refl
 
 -- ---- the numbers stand for a state s that byte-times lead to from s₀
 pub record Tied (s₀ s : State) (h : Hot) : Type 0 where
@@ -133,17 +143,21 @@ pub record Tied (s₀ s : State) (h : Hot) : Type 0 where
   pub waitsb : h .waitsb ≡ some (s .b)
   pub waitsbest : h .waitsbest ≡ some (s₀ .best)
   pub idle : isNobody (h .sender) ≡ true → h .moved ≡ false
-  pub wire : s .wire ≡ wireNow (h .sender) (frameOf s₀ h) (h .left)
+  pub wire : s .wire ≡ wireBy (h .sender) (frameOf s₀ h) (h .left)
   pub owned : Owned (h .sender) (owner (s₀ .table) (frameOf s₀ h))
 
 is-waiting : (c : ℤ) (waits : Bool) → readyBy c waits ≡ true → waits ≡ true
 is-waiting (pos n) waits e = e
 is-waiting (negsuc n) waits e = absurd (false≢true e)
 
+-- a frame that went out in these byte-times is still to be reported
+abbrev Unreported : Hot → Type 0
+Unreported h = h .moved ≡ true → leftAtReport < h .left
+
 -- a head that goes out is on the wire with all its bytes
-head-out : (q : List Frame) → some q ≡ true → 1 ≤ headOf q .size → headOut q ≡ cond (leb (headOf q .size) 0) Free (Sending (headOf q) (headOf q .size))
-head-out [] e h = absurd (false≢true e)
-head-out (f ∷ fs) e h = rw (lt-leb (f .size) 0 (omega arith)) refl
+head-out : (q : List Frame) → some q ≡ true → headOut q ≡ Sending (headOf q) (headOf q .size)
+head-out [] e = absurd (false≢true e)
+head-out (f ∷ fs) e = refl
 
 none-out : (q : List Frame) → some q ≡ false → (headOut q ≡ Free) × (behindHead q ≡ q)
 none-out [] e = (refl, refl)
@@ -181,7 +195,7 @@ module _ (s₀ : State) (fits : Fits s₀) where
           waitsb = t .waitsb;
           waitsbest = t .waitsbest;
           idle = λ z. absurd (false≢true z);
-          wire = ap headOut whole-a ∙ head-out (s₀ .a) w (fits .a .bytes w);
+          wire = ap headOut whole-a ∙ head-out (s₀ .a) w;
           owned = fits .a .owned w;
         }
 
@@ -201,7 +215,7 @@ module _ (s₀ : State) (fits : Fits s₀) where
           waitsb = rw whole-b refl;
           waitsbest = t .waitsbest;
           idle = λ z. absurd (false≢true z);
-          wire = ap headOut whole-b ∙ head-out (s₀ .b) w (fits .b .bytes w);
+          wire = ap headOut whole-b ∙ head-out (s₀ .b) w;
           owned = fits .b .owned w;
         }
 
@@ -221,7 +235,7 @@ module _ (s₀ : State) (fits : Fits s₀) where
           waitsb = t .waitsb;
           waitsbest = t .waitsbest;
           idle = λ z. absurd (false≢true z);
-          wire = ap headOut whole-best ∙ head-out (s₀ .best) w (fits .best .bytes w);
+          wire = ap headOut whole-best ∙ head-out (s₀ .best) w;
           owned = fits .best .owned w;
         }
 
@@ -254,29 +268,21 @@ module _ (s₀ : State) (fits : Fits s₀) where
         a-first false false true e f g ea eb = rw (ea, eb) (best-goes g)
         a-first false false false e f g ea eb = rw (ea, eb) (none-goes g w)
 
-    -- a frame that has just started has bytes left
-    free-whole : endedHot (onFree h x) ≡ false
-    unfolding onFree endedHot fixedOf
-    free-whole = a-first (readyBy (h .credita) (h .waitsa)) (readyBy (h .creditb) (h .waitsb)) (h .waitsbest) refl refl refl
+    -- a frame that has just started is still to be reported
+    free-unreported : Unreported (onFree h x)
+    unfolding onFree fixedOf
+    free-unreported = a-first (readyBy (h .credita) (h .waitsa)) (readyBy (h .creditb) (h .waitsb)) (h .waitsbest) refl refl refl
       where
-        bytes : (n : ℕ) → 1 ≤ n → leb n 0 ≡ false
-        bytes n e = lt-leb n 0 (omega arith)
+        a-first : (ra rb rc : Bool) → readyBy (h .credita) (h .waitsa) ≡ ra → readyBy (h .creditb) (h .waitsb) ≡ rb → h .waitsbest ≡ rc → Unreported (goes (nextBy ra rb rc) h x)
+        a-first true rb rc e f g _ = fits .a .bytes (ap some (sym whole-a) ∙ sym (t .waitsa) ∙ is-waiting (h .credita) (h .waitsa) e)
+        a-first false true rc e f g _ = fits .b .bytes (ap some (sym whole-b) ∙ sym (t .waitsb) ∙ is-waiting (h .creditb) (h .waitsb) f)
+        a-first false false true e f g _ = fits .best .bytes (sym (t .waitsbest) ∙ g)
+        a-first false false false e f g m = absurd (true≢false (sym m ∙ t .idle free))
 
-        a-first : (ra rb rc : Bool) → readyBy (h .credita) (h .waitsa) ≡ ra → readyBy (h .creditb) (h .waitsb) ≡ rb → h .waitsbest ≡ rc → endedHot (goes (nextBy ra rb rc) h x) ≡ false
-        a-first true rb rc e f g = bytes (headOf (s₀ .a) .size) (fits .a .bytes (ap some (sym whole-a) ∙ sym (t .waitsa) ∙ is-waiting (h .credita) (h .waitsa) e))
-        a-first false true rc e f g = bytes (headOf (s₀ .b) .size) (fits .b .bytes (ap some (sym whole-b) ∙ sym (t .waitsb) ∙ is-waiting (h .creditb) (h .waitsb) f))
-        a-first false false true e f g = bytes (headOf (s₀ .best) .size) (fits .best .bytes (sym (t .waitsbest) ∙ g))
-        a-first false false false e f g = rw free refl
-
-  module _ (s : State) (h : Hot) (t : Tied s₀ s h) (going : endedHot h ≡ false) where
-    -- who is on the wire
-    on-wire : s .wire ≡ wireBy (h .sender) (frameOf s₀ h) (h .left)
-    unfolding endedHot
-    on-wire = t .wire ∙ rw going refl
-
+  module _ (s : State) (h : Hot) (t : Tied s₀ s h) where
     starts : Tied s₀ (start s) (startedHot h x)
     unfolding start startedHot
-    starts = by-sender (h .sender) (s .wire) refl refl on-wire
+    starts = by-sender (h .sender) (s .wire) refl refl (t .wire)
       where
         by-sender : (w : Sender) (v : Wire) → h .sender ≡ w → s .wire ≡ v → v ≡ wireBy w (frameOf s₀ h) (h .left) → Tied s₀ (startOn v s) (cond (isNobody w) (onFree h x) h)
         by-sender Nobody v q f g = rw g (free-starts s h t (ap (λ (w : Sender). isNobody w) q) (f ∙ g))
@@ -284,53 +290,126 @@ module _ (s₀ : State) (fits : Fits s₀) where
         by-sender ClassB v q f g = rw g t
         by-sender BestEffort v q f g = rw g t
 
-    starts-whole : endedHot (startedHot h x) ≡ false
+    starts-unreported : Unreported h → Unreported (startedHot h x)
     unfolding startedHot
-    starts-whole = if-free (isNobody (h .sender)) refl
+    starts-unreported u = if-free (isNobody (h .sender)) refl
       where
-        if-free : (b : Bool) → isNobody (h .sender) ≡ b → endedHot (cond b (onFree h x) h) ≡ false
-        if-free true n = free-whole s h t n
-        if-free false n = going
+        if-free : (b : Bool) → isNobody (h .sender) ≡ b → Unreported (cond b (onFree h x) h)
+        if-free true n = free-unreported s h t n
+        if-free false n = u
 
-    -- steps 2, 3 and 4
-    passes : Tied s₀ (settle (pass (earn s))) (passedHot h x)
-    unfolding passedHot fixedOf
-    passes =
-        let f = frameOf s₀ h in
-        let o : Owned (h .sender) (owner (s .table) f) = rw (t .table) (t .owned) in
-        record {
-          table = t .table;
-          last = t .last;
-          credita = rw (t .credita, t .waitsa, ← t .table, on-wire, sends-for A (h .sender) (s .table) f (h .left) o, still-for A (h .sender) (s .table) f (h .left) o) (sym (same-credit (isA (h .sender)) (isA (h .sender) && leb 2 (h .left)) (s .a) (idle A (s .table)) (send A (s .table)) (s .credita)));
-          creditb = rw (t .creditb, t .waitsb, ← t .table, on-wire, sends-for B (h .sender) (s .table) f (h .left) o, still-for B (h .sender) (s .table) f (h .left) o) (sym (same-credit (isB (h .sender)) (isB (h .sender) && leb 2 (h .left)) (s .b) (idle B (s .table)) (send B (s .table)) (s .creditb)));
-          a = t .a;
-          b = t .b;
-          best = t .best;
-          waitsa = t .waitsa;
-          waitsb = t .waitsb;
-          waitsbest = t .waitsbest;
-          idle = t .idle;
-          wire = rw on-wire (wire-after (h .sender) f (h .left));
-          owned = t .owned;
-        }
+    -- what is reported in the byte to come
+    byte-ends : reportedIn (s .wire) ≡ cond (endedHot (passedHot h x)) (Reported (frameOf s₀ (passedHot h x))) Nothing
+    unfolding passedHot freedIfOver endedHot
+    byte-ends = ap reportedIn (t .wire) ∙ ends (h .sender) (frameOf s₀ h) (h .left) ∙ by-over (isOver (byteOff h x)) refl
+      where
+        by-over : (b : Bool) → isOver (byteOff h x) ≡ b → cond (not (isNobody (h .sender)) && eqb (leftAfter (isNobody (h .sender)) (h .left)) leftAtReport) (Reported (frameOf s₀ h)) Nothing ≡ cond (endedHot (cond b (freed (byteOff h x)) (byteOff h x))) (Reported (frameOf s₀ (cond b (freed (byteOff h x)) (byteOff h x)))) Nothing
+        by-over true e = rw (over-silent (not (isNobody (h .sender))) (leftAfter (isNobody (h .sender)) (h .left)) e) refl
+        by-over false e = refl
 
-  module _ (s : State) (h : Hot) (t : Tied s₀ s h) (going : endedHot h ≡ false) where
-    -- one byte-time, and the frame that ends in it
+    module _ (unreported : Unreported h) where
+      -- such a frame has the wire still
+      sends : h .moved ≡ true → isNobody (h .sender) ≡ false
+      sends m = by-sender (isNobody (h .sender)) refl
+        where
+          by-sender : (b : Bool) → isNobody (h .sender) ≡ b → b ≡ false
+          by-sender true n = absurd (true≢false (sym m ∙ t .idle n))
+          by-sender false n = refl
+
+      not-over : h .moved ≡ true → isOver (byteOff h x) ≡ false
+      not-over m = rw (sends m) (lt-leb (h .left - 1) 0 (omega (arith, unreported m)))
+
+      over-unmoved : isOver (byteOff h x) ≡ true → h .moved ≡ false
+      over-unmoved e = by-moved (h .moved) refl
+        where
+          by-moved : (b : Bool) → h .moved ≡ b → b ≡ false
+          by-moved true m = absurd (true≢false (sym e ∙ not-over m))
+          by-moved false m = refl
+
+      -- steps 2, 3 and 4
+      passes : Tied s₀ (settle (pass (earn s))) (passedHot h x)
+      unfolding passedHot freedIfOver fixedOf
+      passes = by-over (isOver (byteOff h x)) refl
+        where
+          f : Frame
+          f = frameOf s₀ h
+
+          o : Owned (h .sender) (owner (s .table) f)
+          o = rw (t .table) (t .owned)
+
+          credit-a : byteOff h x .credita ≡ settle (pass (earn s)) .credita
+          credit-a = rw (t .credita, t .waitsa, ← t .table, t .wire, sends-for A (h .sender) (s .table) f (h .left) o, still-for A (h .sender) (s .table) f (h .left) o) (sym (same-credit (isA (h .sender)) (isA (h .sender) && leb 2 (h .left)) (s .a) (idle A (s .table)) (send A (s .table)) (s .credita)))
+
+          credit-b : byteOff h x .creditb ≡ settle (pass (earn s)) .creditb
+          credit-b = rw (t .creditb, t .waitsb, ← t .table, t .wire, sends-for B (h .sender) (s .table) f (h .left) o, still-for B (h .sender) (s .table) f (h .left) o) (sym (same-credit (isB (h .sender)) (isB (h .sender) && leb 2 (h .left)) (s .b) (idle B (s .table)) (send B (s .table)) (s .creditb)))
+
+          by-over : (b : Bool) → isOver (byteOff h x) ≡ b → Tied s₀ (settle (pass (earn s))) (cond b (freed (byteOff h x)) (byteOff h x))
+          by-over true e =
+              let m = over-unmoved e in
+              record {
+                table = t .table;
+                last = t .last;
+                credita = credit-a;
+                creditb = credit-b;
+                a = t .a ∙ rw m refl;
+                b = t .b ∙ rw m refl;
+                best = t .best ∙ rw m refl;
+                waitsa = t .waitsa;
+                waitsb = t .waitsb;
+                waitsbest = t .waitsbest;
+                idle = λ _. m;
+                wire = ap wireAfter (t .wire) ∙ wire-after (h .sender) f (h .left) e;
+                owned = refl;
+              }
+          by-over false e =
+              record {
+                table = t .table;
+                last = t .last;
+                credita = credit-a;
+                creditb = credit-b;
+                a = t .a;
+                b = t .b;
+                best = t .best;
+                waitsa = t .waitsa;
+                waitsb = t .waitsb;
+                waitsbest = t .waitsbest;
+                idle = t .idle;
+                wire = ap wireAfter (t .wire) ∙ wire-after (h .sender) f (h .left) e;
+                owned = t .owned;
+              }
+
+      passes-unreported : endedHot (passedHot h x) ≡ false → Unreported (passedHot h x)
+      unfolding passedHot freedIfOver endedHot
+      passes-unreported = by-over (isOver (byteOff h x)) refl
+        where
+          longer : (left : ℕ) → leftAtReport < left → (left - 1 ≡ leftAtReport → ⊥) → leftAtReport < left - 1
+          longer left more other = omega (arith, more, other)
+
+          by-over : (b : Bool) → isOver (byteOff h x) ≡ b → endedHot (cond b (freed (byteOff h x)) (byteOff h x)) ≡ false → Unreported (cond b (freed (byteOff h x)) (byteOff h x))
+          by-over true e q m = absurd (true≢false (sym m ∙ over-unmoved e))
+          by-over false e q m =
+              let other : h .left - 1 ≡ leftAtReport → ⊥ = eqb-false (h .left - 1) leftAtReport (rw (sends m) at q) in
+              rw (sends m) (longer (h .left) (unreported m) other)
+
+  module _ (s : State) (h : Hot) (t : Tied s₀ s h) (unreported : Unreported h) where
+    -- one byte-time, and the frame that is reported in it
     ticks : Tied s₀ (byteTime s) (tickHot h x)
     unfolding byteTime tickHot
-    ticks = passes (start s) (startedHot h x) (starts s h t going) (starts-whole s h t going)
+    ticks = passes (start s) (startedHot h x) (starts s h t) (starts-unreported s h t unreported)
 
     ends-here : endsIn s ≡ cond (endedHot (tickHot h x)) (Reported (frameOf s₀ (tickHot h x))) Nothing
-    unfolding endsIn tickHot passedHot endedHot
-    ends-here =
-        let g = startedHot h x in
-        ap reportedIn (on-wire (start s) g (starts s h t going) (starts-whole s h t going)) ∙ ends (g .sender) (frameOf s₀ g) (g .left) (starts-whole s h t going)
+    unfolding endsIn tickHot
+    ends-here = byte-ends (start s) (startedHot h x) (starts s h t)
+
+    ticks-unreported : endedHot (tickHot h x) ≡ false → Unreported (tickHot h x)
+    unfolding tickHot
+    ticks-unreported = passes-unreported (start s) (startedHot h x) (starts s h t) (starts-unreported s h t unreported)
 
   -- ---- the machine's progress and the run on numbers say the same
   record Agree (p : Progress) (r : Ran) : Type 0 where
     passed : p .passed ≡ r .passed
     ended : p .ended ≡ endedBy s₀ r
-    over : endedHot (r .hot) ≡ r .ended
+    unreported : r .ended ≡ false → Unreported (r .hot)
     clock : p .state .clock ≡ s₀ .clock + r .passed
     tied : Tied s₀ (p .state) (r .hot)
 
@@ -340,15 +419,15 @@ module _ (s₀ : State) (fits : Fits s₀) where
       by-end : (b : Bool) (e : Ended) → r .ended ≡ b → e ≡ endedBy s₀ r → Agree (further e p) (furtherHot b r x)
       by-end true e q g = let z : e ≡ Reported (frameOf s₀ (r .hot)) = g ∙ rw q refl in rw z a
       by-end false e q g =
-          let o : endedHot (r .hot) ≡ false = a .over ∙ q in
+          let u = a .unreported q in
           let z : e ≡ Nothing = g ∙ rw q refl in
           rw z
           (record {
             passed = ap suc (a .passed);
-            ended = ends-here (p .state) (r .hot) (a .tied) o;
-            over = refl;
+            ended = ends-here (p .state) (r .hot) (a .tied) u;
+            unreported = ticks-unreported (p .state) (r .hot) (a .tied) u;
             clock = byte-clock (p .state) ∙ omega (arith, a .clock);
-            tied = ticks (p .state) (r .hot) (a .tied) o;
+            tied = ticks (p .state) (r .hot) (a .tied) u;
           })
 
   -- ---- the port's own numbers
@@ -357,15 +436,10 @@ module _ (s₀ : State) (fits : Fits s₀) where
   by-owner (shaped B) = refl
   by-owner unshaped = refl
 
-  nobody-else : (o : Owner) → isNobody (senderBy o) ≡ false
-  nobody-else (shaped A) = refl
-  nobody-else (shaped B) = refl
-  nobody-else unshaped = refl
-
-  sent-by : (o : Owner) (f : Frame) (left : ℕ) → 1 ≤ left → Sending f left ≡ wireNow (senderBy o) f left
-  sent-by (shaped A) f left h = rw (lt-leb left 0 (omega arith)) refl
-  sent-by (shaped B) f left h = rw (lt-leb left 0 (omega arith)) refl
-  sent-by unshaped f left h = rw (lt-leb left 0 (omega arith)) refl
+  sent-by : (o : Owner) (f : Frame) (left : ℕ) → Sending f left ≡ wireBy (senderBy o) f left
+  sent-by (shaped A) f left = refl
+  sent-by (shaped B) f left = refl
+  sent-by unshaped f left = refl
 
   begins : Tied s₀ s₀ (hotOf s₀)
   unfolding hotOf
@@ -382,29 +456,25 @@ module _ (s₀ : State) (fits : Fits s₀) where
         waitsb = refl;
         waitsbest = refl;
         idle = λ _. refl;
-        wire = by-wire (s₀ .wire) refl;
+        wire = by-wire (s₀ .wire);
         owned = owned-by (s₀ .wire);
       }
     where
-      by-wire : (w : Wire) → s₀ .wire ≡ w → w ≡ wireNow (senderOn s₀ w) (frameOn w) (leftOn w)
-      by-wire Free e = refl
-      by-wire (Sending f left) e = sent-by (owner (s₀ .table) f) f left (fits .left f left e)
+      by-wire : (w : Wire) → w ≡ wireBy (senderOn s₀ w) (frameOn w) (leftOn w)
+      by-wire Free = refl
+      by-wire (Sending f left) = sent-by (owner (s₀ .table) f) f left
 
       owned-by : (w : Wire) → Owned (senderOn s₀ w) (owner (s₀ .table) (frameOn w))
       owned-by Free = refl
       owned-by (Sending f left) = by-owner (owner (s₀ .table) f)
 
-  goes-on : endedHot (hotOf s₀) ≡ false
-  unfolding hotOf endedHot
-  goes-on = by-wire (s₀ .wire) refl
-    where
-      by-wire : (w : Wire) → s₀ .wire ≡ w → not (isNobody (senderOn s₀ w)) && leb (leftOn w) 0 ≡ false
-      by-wire Free e = refl
-      by-wire (Sending f left) e = rw (nobody-else (owner (s₀ .table) f)) (lt-leb left 0 (omega (arith, fits .left f left e)))
+  begins-unreported : Unreported (hotOf s₀)
+  unfolding hotOf
+  begins-unreported m = absurd (false≢true m)
 
   agrees : (n : ℕ) → Agree (progress n s₀) (runHot n (hotOf s₀) x)
   unfolding progress runHot
-  agrees zero = record { passed = refl; ended = refl; over = goes-on; clock = omega arith; tied = begins }
+  agrees zero = record { passed = refl; ended = refl; unreported = λ _. begins-unreported; clock = omega arith; tied = begins }
   agrees (suc n) = agree-next (progress n s₀) (runHot n (hotOf s₀) x) (agrees n)
 
 same-state : (s : State) {t : Contents} {now : ℕ} {ca cb : ℤ} {a b best : List Frame} {last : List Instant} {w : Wire} → s .table ≡ t → s .clock ≡ now → ca ≡ s .credita → cb ≡ s .creditb → s .a ≡ a → s .b ≡ b → s .best ≡ best → s .last ≡ last → s .wire ≡ w → s ≡ record { table = t; clock = now; credita = ca; creditb = cb; a = a; b = b; best = best; last = last; wire = w }

@@ -5,19 +5,19 @@ use mathlib.Core.Path.{_≡_, refl, sym, _∙_, ap}
 use native.Mathlib.Numerals.{add-one}
 use native.Mathlib.Omega.{arith}
 use lib.IntN.{ℤ}
-use lib.Dec.{leb}
+use lib.Dec.{leb, eqb}
 use lib.Signed.{mag}
-use borrow.Author.Tests.{lt-leb}
-use Rattle.table.specs.Limits.{D}
+use borrow.Author.Tests.{lt-leb, eq-eqb, ne-eqb}
+use Rattle.table.specs.Limits.{D, leftAtReport}
 use Rattle.machine.specs.Limits.{mostSteps}
 use Rattle.bytetime.specs.declared.Hot.{Hot}
 use Rattle.bytetime.specs.declared.Fixed.{Fixed}
 use Rattle.bytetime.specs.declared.Ran.{Ran}
-use Rattle.bytetime.specs.Bytes.{creditAfter, isA, isB, isNobody, readyBy, nextBy, goes, onFree, startedHot, leftAfter, hotWith, passedHot, tickHot, endedHot, runHot, wide, far, Near, ranWith, Stretch}
+use Rattle.bytetime.specs.Bytes.{creditAfter, isA, isB, isNobody, readyBy, nextBy, goes, onFree, startedHot, leftAfter, hotWith, freed, freedIfOver, passedHot, tickHot, endedHot, runHot, wide, far, Near, ranWith, Stretch}
 use Rattle.bytetime.proofs.Moves.{holds, near-run, nearer, no-run, one-more, run-on, behind, run-started}
 
 module _ (h : Hot) (x : Fixed) where
-  -- i byte-times have passed, no frame ended, and none can start
+  -- i byte-times have passed, no frame was reported or is over, and none can start
   pub record Turn (i : ℕ) (ca cb : ℤ) (left : ℕ) : Type 0 where
     pub ran : runHot i h x ≡ ranWith h ca cb left i false
     pub stays : startedHot (hotWith h ca cb left) x ≡ hotWith h ca cb left
@@ -40,33 +40,36 @@ module _ (h : Hot) (x : Fixed) where
 
     -- a byte-time passes
     module _ {a b ka kb : Bool} {ra rb : ℤ} (is-a : a ≡ isA (h .sender)) (is-b : b ≡ isB (h .sender)) (keeps-a : ka ≡ (a && leb 2 left)) (keeps-b : kb ≡ (b && leb 2 left)) (ea : ra ≡ creditAfter a ka (h .waitsa) (x .idlea) (D - x .idlea) ca) (eb : rb ≡ creditAfter b kb (h .waitsb) (x .idleb) (D - x .idleb) cb) where
-      one-passes : {l : ℕ} → l ≡ leftAfter (isNobody (h .sender)) left → hotWith h ra rb l ≡ tickHot (hotWith h ca cb left) x
+      one-passes : {l : ℕ} → l ≡ leftAfter (isNobody (h .sender)) left → freedIfOver (hotWith h ra rb l) ≡ tickHot (hotWith h ca cb left) x
       unfolding tickHot passedHot
       one-passes el = rw (t .stays, ea, eb, keeps-a, keeps-b, is-a, is-b, el) refl
 
-      further : {l : ℕ} → l ≡ leftAfter (isNobody (h .sender)) left → {e : Bool} → e ≡ endedHot (hotWith h ra rb l) → runHot (i + 1) h x ≡ ranWith h ra rb l (i + 1) e
-      further el ee = rw add-one (one-more i h (hotWith h ca cb left) (hotWith h ra rb _) x (t .ran) (one-passes el) ee)
+      further : (l : ℕ) → l ≡ leftAfter (isNobody (h .sender)) left → {g : Hot} → g ≡ freedIfOver (hotWith h ra rb l) → {e : Bool} → e ≡ endedHot g → runHot (i + 1) h x ≡ record { hot = g; passed = i + 1; ended = e }
+      further l el eg ee = rw add-one (one-more i h (hotWith h ca cb left) _ x (t .ran) (eg ∙ one-passes el) ee)
 
       -- on a free wire nothing ends
       module _ (free : isNobody (h .sender) ≡ true) where
         pub free-further : runHot (i + 1) h x ≡ ranWith h ra rb left (i + 1) false
-        unfolding endedHot
-        free-further = further (rw free refl) (rw free refl)
+        unfolding endedHot freedIfOver
+        free-further = further left (rw free refl) (rw free refl) (rw free refl)
 
-      -- a frame on the wire ends with its last byte
+      -- after a frame's last byte nobody has the wire, and before that it is reported once
       module _ (sends : isNobody (h .sender) ≡ false) where
-        pub sends-last : left ≤ 1 → runHot (i + 1) h x ≡ ranWith h ra rb 0 (i + 1) true
-        unfolding endedHot
+        pub sends-last : left ≤ 1 → runHot (i + 1) h x ≡ ranWith (freed h) ra rb 0 (i + 1) false
+        unfolding endedHot freedIfOver
         sends-last few =
             let e : 0 ≡ left - 1 = omega arith in
-            further (rw sends e) (rw sends refl)
+            further 0 (rw sends e) (rw sends refl) refl
 
-        pub sends-further : 1 < left → runHot (i + 1) h x ≡ ranWith h ra rb (left - 1) (i + 1) false
-        unfolding endedHot
-        sends-further more = further (rw sends refl) (rw (sends, lt-leb (left - 1) 0 (omega arith)) refl)
+        sends-on : 1 < left → {e : Bool} → e ≡ eqb (left - 1) leftAtReport → runHot (i + 1) h x ≡ ranWith h ra rb (left - 1) (i + 1) e
+        unfolding endedHot freedIfOver
+        sends-on more ee = further (left - 1) (rw sends refl) (rw (sends, lt-leb (left - 1) 0 (omega arith)) refl) (rw sends ee)
 
-        pub sends-again : 1 < left → Turn (i + 1) ra rb (left - 1)
-        sends-again more = record { ran = sends-further more; stays = sym (holds (hotWith h ra rb (left - 1)) x sends) }
+        pub sends-reported : 1 < left → left - 1 ≡ leftAtReport → runHot (i + 1) h x ≡ ranWith h ra rb (left - 1) (i + 1) true
+        sends-reported more here = sends-on more (sym (eq-eqb (left - 1) leftAtReport here))
+
+        pub sends-again : 1 < left → (left - 1 ≡ leftAtReport → ⊥) → Turn (i + 1) ra rb (left - 1)
+        sends-again more other = record { ran = sends-on more (sym (ne-eqb (left - 1) leftAtReport other)); stays = sym (holds (hotWith h ra rb (left - 1)) x sends) }
 
   -- no best-effort frame waits on a wire that stays free
   no-best : isNobody (h .sender) ≡ true → startedHot h x ≡ h → h .waitsbest ≡ false
@@ -84,8 +87,8 @@ module _ (h : Hot) (x : Fixed) where
   free-again free s ran na nb = record { ran = ran; stays = rw (free, na, nb, no-best free s) refl }
 
   -- what the loop hands back
-  pub stretched : (n : ℕ) {i : ℕ} {ra rb : ℤ} {left : ℕ} {e : Bool} {r : Ran} → 1 ≤ i → i ≤ n → r ≡ ranWith h ra rb left i e → runHot i h x ≡ ranWith h ra rb left i e → Stretch n h x r
-  stretched n some most er e = rw er (record { some = some; most = most; ran = sym e })
+  pub stretched : (n : ℕ) (f g : Hot) → f ≡ g → {i : ℕ} {ra rb : ℤ} {left : ℕ} {e : Bool} {r : Ran} → 1 ≤ i → i ≤ n → r ≡ ranWith f ra rb left i e → runHot i h x ≡ ranWith g ra rb left i e → Stretch n h x r
+  stretched n f g same some most er e = rw (er, same) (record { some = some; most = most; ran = sym e })
 
 -- a stretch carries a run on
 module _ (n i : ℕ) (h g s : Hot) (x : Fixed) (r : Ran) (at-i : runHot i h x ≡ record { hot = g; passed = i; ended = false }) (starts : s ≡ startedHot g x) (e : Stretch n s x r) where

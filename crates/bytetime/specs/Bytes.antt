@@ -1,11 +1,11 @@
 -- Byte-times on the few numbers that they change. No promise of a port's call cites this file.
-use Prim.Native.Nat.{ℕ, zero, suc, _+_, _-_, _*_, _≤_}
+use Prim.Native.Nat.{ℕ, zero, suc, _-_, _*_, _≤_}
 use mathlib.Core.Bool.{Bool, true, false, not, cond, _&&_}
 use mathlib.Core.Path.{_≡_}
-use lib.Dec.{leb}
+use lib.Dec.{leb, eqb}
 use lib.Signed.{mag}
 use lib.IntN.{ℤ, pos, negsuc, _+ℤ_, _-ℤ_}
-use Rattle.table.specs.Limits.{D}
+use Rattle.table.specs.Limits.{D, leftAtReport}
 use Rattle.machine.specs.Limits.{mostSteps}
 use Rattle.machine.specs.Time.{upToZero, rise}
 use Rattle.machine.specs.Record.{between}
@@ -83,28 +83,40 @@ onFree h x = goes (nextBy (readyBy (h .credita) (h .waitsa)) (readyBy (h .credit
 unfoldable pub startedHot : Hot → Fixed → Hot
 startedHot h x = cond (isNobody (h .sender)) (onFree h x) h
 
--- Steps 2, 3 and 4: a byte of the frame on the wire passes, or of a free wire.
+-- Steps 2, 3 and 4: a byte of the frame on the wire passes, or of a free wire. After a frame's last byte nobody has the wire.
 abbrev pub leftAfter : Bool → ℕ → ℕ
 leftAfter free left = cond free left (left - 1)
 
 abbrev pub hotWith : Hot → ℤ → ℤ → ℕ → Hot
 hotWith h ca cb left = record { credita = ca; creditb = cb; left = left; sender = h .sender; moved = h .moved; waitsa = h .waitsa; waitsb = h .waitsb; waitsbest = h .waitsbest }
 
-unfoldable pub passedHot : Hot → Fixed → Hot
-passedHot h x =
+abbrev pub byteOff : Hot → Fixed → Hot
+byteOff h x =
     hotWith h
     (creditAfter (isA (h .sender)) (isA (h .sender) && leb 2 (h .left)) (h .waitsa) (x .idlea) (D - x .idlea) (h .credita))
     (creditAfter (isB (h .sender)) (isB (h .sender) && leb 2 (h .left)) (h .waitsb) (x .idleb) (D - x .idleb) (h .creditb))
     (leftAfter (isNobody (h .sender)) (h .left))
 
--- A byte-time, and whether a frame ended in it: someone has the wire and no byte is left.
+abbrev pub isOver : Hot → Bool
+isOver h = not (isNobody (h .sender)) && leb (h .left) 0
+
+abbrev pub freed : Hot → Hot
+freed h = record { credita = h .credita; creditb = h .creditb; left = h .left; sender = Nobody; moved = h .moved; waitsa = h .waitsa; waitsb = h .waitsb; waitsbest = h .waitsbest }
+
+unfoldable pub freedIfOver : Hot → Hot
+freedIfOver h = cond (isOver h) (freed h) h
+
+unfoldable pub passedHot : Hot → Fixed → Hot
+passedHot h x = freedIfOver (byteOff h x)
+
+-- A byte-time, and whether a frame was reported ended in it: someone has the wire, and `leftAtReport` bytes are left.
 unfoldable pub tickHot : Hot → Fixed → Hot
 tickHot h x = passedHot (startedHot h x) x
 
 unfoldable pub endedHot : Hot → Bool
-endedHot h = not (isNobody (h .sender)) && leb (h .left) 0
+endedHot h = not (isNobody (h .sender)) && eqb (h .left) leftAtReport
 
--- Byte-times until a frame ends or n have passed.
+-- Byte-times until a frame is reported or n have passed.
 abbrev pub furtherHot : Bool → Ran → Fixed → Ran
 furtherHot true r x = r
 furtherHot false r x = record { hot = tickHot (r .hot) x; passed = suc (r .passed); ended = endedHot (tickHot (r .hot) x) }

@@ -1,10 +1,10 @@
 -- The port that the numbers of byte-times stand for.
-use Prim.Native.Nat.{ℕ, _+_, _≤_}
-use mathlib.Core.Bool.{Bool, true, false, cond, not, _&&_}
+use Prim.Native.Nat.{ℕ, _+_, _<_}
+use mathlib.Core.Bool.{Bool, true, false, cond, _&&_}
 use mathlib.Core.List.{List, [], _∷_}
 use mathlib.Core.Path.{_≡_}
-use lib.Dec.{leb}
 use Rattle.table.specs.declared.Class.the-variants.{A, B}
+use Rattle.table.specs.Limits.{leftAtReport}
 use Rattle.table.specs.Rows.{Contents}
 use Rattle.machine.specs.declared.Frame.{Frame}
 use Rattle.machine.specs.declared.Wire.{Wire}
@@ -19,7 +19,7 @@ use Rattle.bytetime.specs.declared.Sender.the-variants.{Nobody, ClassA, 
 use Rattle.bytetime.specs.declared.Hot.{Hot}
 use Rattle.bytetime.specs.declared.Fixed.{Fixed}
 use Rattle.bytetime.specs.declared.Ran.{Ran}
-use Rattle.bytetime.specs.Bytes.{isA, isB, isBest, isNobody, runHot}
+use Rattle.bytetime.specs.Bytes.{isA, isB, isBest, runHot}
 
 -- A queue has a frame, and a frame behind its head; its head.
 abbrev pub some : List Frame → Bool
@@ -83,21 +83,18 @@ frameOn (Sending f left) = f
 abbrev pub frameOf : State → Hot → Frame
 frameOf s h = cond (h .moved) (headFor (h .sender) s) (frameOn (s .wire))
 
--- The wire: free once the frame has ended.
+-- The wire, by who has it.
 abbrev pub wireBy : Sender → Frame → ℕ → Wire
 wireBy Nobody f left = Free
 wireBy ClassA f left = Sending f left
 wireBy ClassB f left = Sending f left
 wireBy BestEffort f left = Sending f left
 
-abbrev pub wireNow : Sender → Frame → ℕ → Wire
-wireNow w f left = cond (not (isNobody w) && leb left 0) Free (wireBy w f left)
-
 -- A queue whose head went out has those behind it.
 abbrev pub queueAfter : Bool → List Frame → List Frame
 queueAfter gone q = cond gone (behindHead q) q
 
--- The port after byte-times on its numbers, and the frame that ended in the last of them.
+-- The port after byte-times on its numbers, and the frame that was reported in the last of them.
 unfoldable pub afterRun : State → Ran → State
 afterRun s r =
     record {
@@ -109,24 +106,23 @@ afterRun s r =
       b = queueAfter (r .hot .moved && isB (r .hot .sender)) (s .b);
       best = queueAfter (r .hot .moved && isBest (r .hot .sender)) (s .best);
       last = s .last;
-      wire = wireNow (r .hot .sender) (frameOf s (r .hot)) (r .hot .left);
+      wire = wireBy (r .hot .sender) (frameOf s (r .hot)) (r .hot .left);
     }
 
 abbrev pub endedBy : State → Ran → Ended
 endedBy s r = cond (r .ended) (Reported (frameOf s (r .hot))) Nothing
 
--- A port whose heads and wire fit: as every sound port has them.
+-- A port whose heads fit, as those of every sound port do: a head is of its queue's class, and longer than what is left at a report.
 pub record HeadFits (t : Contents) (o : Owner) (q : List Frame) : Type 0 where
   pub owned : some q ≡ true → owner t (headOf q) ≡ o
-  pub bytes : some q ≡ true → 1 ≤ headOf q .size
+  pub bytes : some q ≡ true → leftAtReport < headOf q .size
 
 pub record Fits (s : State) : Type 0 where
   pub a : HeadFits (s .table) (shaped A) (s .a)
   pub b : HeadFits (s .table) (shaped B) (s .b)
   pub best : HeadFits (s .table) unshaped (s .best)
-  pub left : (f : Frame) (left : ℕ) → s .wire ≡ Sending f left → 1 ≤ left
 
--- Byte-times on a port's numbers are the machine's: the same count, the same frame ended, the same port.
+-- Byte-times on a port's numbers are the machine's: the same count, the same frame reported, the same port.
 pub record SameRun (s : State) (p : Progress) (r : Ran) : Type 0 where
   pub passed : p .passed ≡ r .passed
   pub ended : p .ended ≡ endedBy s r

@@ -36,7 +36,7 @@ pub struct Fixed {
     pub moreb: bool,
 }
 
-// What byte-times leave: the numbers, how many have passed, and whether a frame ended in the last of them.
+// What byte-times leave: the numbers, how many have passed, and whether a frame was reported ended in the last of them.
 pub struct Ran {
     pub hot: Hot,
     pub passed: u64,

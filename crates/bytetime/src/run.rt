@@ -1,14 +1,15 @@
-// Byte-times until a frame ends or so many have passed.
+// Byte-times until a frame is reported or so many have passed.
 ghost use mathlib.Core.Path.{_≡_};
 ghost use mathlib.Core.Bool.{_&&_};
 ghost use Prim.Native.Nat.{_≤_};
 ghost use lib.Dec.{leb};
 ghost use Rattle.machine.specs.Limits.{mostSteps};
 ghost use Rattle.machine.specs.Record.{between};
-ghost use Rattle.bytetime.specs.Bytes.{startedHot, runHot, reach, wide, Near, nearHot, stepsOf, ranWith, Stretch};
+ghost use Rattle.bytetime.specs.Bytes.{startedHot, freed, runHot, reach, wide, Near, nearHot, stepsOf, ranWith, Stretch};
 use crate::Fixed;
 use crate::Hot;
 use crate::Ran;
+use crate::Sender;
 use crate::credit::credit_after;
 use crate::credit::ready;
 use crate::senders::is_a;
@@ -17,6 +18,7 @@ use crate::senders::is_nobody;
 use crate::start::started;
 use machine::MOST_STEPS;
 use table::wire::D;
+use table::wire::LEFT_AT_REPORT;
 
 // How far from 0 a credit may be when a run begins.
 const REACH: i64 = 2_305_843_009_213_693_952;
@@ -42,8 +44,24 @@ fn ran(h: Hot, credita: i64, creditb: i64, left: u32, passed: u64, ended: bool) 
     Ran { hot, passed, ended }
 }
 
-// One byte-time after the other, while the wire stays free or sends one frame: until its last byte has passed, until a class's head may go out, or until n have
-// passed.
+// After a frame's last byte nobody has the wire.
+fn freed(h: Hot) -> Hot
+    ensures { λ r. ⌜ r ≡ freed h ⌝ }
+{
+    Hot {
+        credita: h.credita,
+        creditb: h.creditb,
+        left: h.left,
+        sender: Sender::Nobody,
+        moved: h.moved,
+        waitsa: h.waitsa,
+        waitsb: h.waitsb,
+        waitsbest: h.waitsbest,
+    }
+}
+
+// One byte-time after the other, while the wire stays free or sends one frame: until it is reported, until its last byte has passed, until a class's head may go out,
+// or until n have passed.
 fn stretch(h: Hot, x: Fixed, n: u64) -> Ran
     requires { ⌜ Near wide h x ⌝ }
     requires { ⌜ startedHot h x ≡ h ⌝ }
@@ -78,9 +96,12 @@ fn stretch(h: Hot, x: Fixed, n: u64) -> Ran
             }
         } else {
             if left <= 1 {
-                return ran(h, credita, creditb, 0, i, true);
+                return ran(freed(h), credita, creditb, 0, i, false);
             }
             left -= 1;
+            if left == LEFT_AT_REPORT {
+                return ran(h, credita, creditb, left, i, true);
+            }
         }
     }
     ran(h, credita, creditb, left, i, false)

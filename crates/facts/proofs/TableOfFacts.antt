@@ -1,4 +1,4 @@
--- Document 01's facts (a) to (g), those of rows that name a sample rate, and those of deadlines longer than the period (C-12), by computing the definitions.
+-- Document 01's facts (a) to (g), those of rows that name a sample rate, those of deadlines longer than the period (C-12), and those of the gap behind a report (C-13), by computing the definitions.
 use Prim.Native.Nat.{ℕ, _+_, _-_, _≤_}
 use mathlib.Core.Bool.{false}
 use mathlib.Core.List.{[], _∷_}
@@ -12,7 +12,7 @@ use Rattle.table.specs.Checks.{accepted, passing}
 use Rattle.table.specs.Ranges.{countOk, headerOk, paceOk, rowOk, ranged}
 use Rattle.table.proofs.Laws.{rated-period}
 use Rattle.planner.specs.Sums.{sumOver, maxOver, members, largest, total, shares, bestSize}
-use Rattle.planner.specs.Bound.{blocking, residenceIn, residence, bound, mostOf, mostIn, bounds}
+use Rattle.planner.specs.Bound.{blocking, residenceIn, residence, bound, mostOf, mostIn, bounds, residences}
 use Rattle.planner.specs.Opening.{usedOk, slopesOk, sharesOk, timely, roomOk, opening}
 use Rattle.machine.specs.declared.Frame.{Frame}
 use Rattle.machine.specs.declared.Wire.the-variants.{Free, Sending}
@@ -36,7 +36,7 @@ stateG = record { table = specimen; clock = 15624; credita = pos 0; creditb = po
 abbrev stateAt : ℕ → ℕ → State
 stateAt now taken = record { table = sampled; clock = now; credita = pos 0; creditb = pos 0; a = []; b = []; best = []; last = at taken ∷ never ∷ never ∷ []; wire = Free }
 
--- those of C-12: with four frames of the row in the port; at 480, the first has ended and the second is on the wire
+-- those of C-12: with four frames of the row in the port; at 480, the first has left and the second is on the wire
 abbrev oftenFrame : ℕ → Frame
 oftenFrame instant = record { source = 0; size = 84; taken = instant }
 
@@ -83,7 +83,7 @@ never-early cs payload instant gap a before h few last long now =
     d .space 0 payload a before h (record { below = omega arith }) few (not-soon (lastTaken 0 before) (clockOf before) instant gap last now long)
 
 pub facts : Facts
-unfolding ceilDiv wireSize sizeFor sizeOf paced periodOf shareOf rowsOf inUse passing countOk headerOk paceOk rowOk ranged sumOver maxOver members largest total shares bestSize blocking residenceIn residence bound mostOf mostIn bounds usedOk slopesOk sharesOk timely roomOk opening fresh owner start reportedIn byteTime endsIn progress tableSound clockSound creditSound bestSound namesSound queuesSound sizesSound leftSound framesTaken rowsTaken takenOf heldSound apartSound latestSound ageSound sound offerCheck bestCheck advanceCheck takeRow takeBest valueAt bytesOf defaultPayload defaultPeriod defaultDeadline bitOf opens header pacedFrom rowFrom row rowsChecks rowsFrom rowsEnd readFile mapByte rowBytes rowsBytes headerBytes fileOf
+unfolding ceilDiv wireSize sizeFor sizeOf paced periodOf shareOf rowsOf inUse passing countOk headerOk paceOk rowOk ranged sumOver maxOver members largest total shares bestSize blocking residenceIn residence bound mostOf mostIn bounds residences usedOk slopesOk sharesOk timely roomOk opening fresh owner start reportedIn byteTime endsIn progress tableSound clockSound creditSound bestSound namesSound queuesSound sizesSound leftSound framesTaken rowsTaken takenOf heldSound apartSound latestSound ageSound sound offerCheck bestCheck advanceCheck takeRow takeBest valueAt bytesOf defaultPayload defaultPeriod defaultDeadline bitOf opens header pacedFrom rowFrom row rowsChecks rowsFrom rowsEnd readFile mapByte rowBytes rowsBytes headerBytes fileOf
 facts =
     let g : port inG ≡ stateG = refl in
     let o : played (fresh sampled) soon ≡ stateAt 17005 0 = refl in
@@ -112,8 +112,8 @@ facts =
       g-clock = ap (λ s. s .clock) g;
       g-early = ap (λ s. answer s (offer 0 58)) g;
       g-taken = ap (λ s. answer (after s (advance 1)) (offer 0 58)) g;
-      f-3142 = refl;
-      f-3141 = refl;
+      f-3130 = refl;
+      f-3129 = refl;
       rate-44100 = refl;
       rate-48000 = refl;
       rate-shortest = refl;
@@ -132,10 +132,11 @@ facts =
       long-reads = refl;
       long-writes = refl;
       long-bounds = refl;
+      long-residence = refl;
       long-accepts = refl;
       long-most = refl;
       four-held = ap (λ s. takenOf 0 s) h;
-      four-first = ap (λ s. answer (after s (advance 120)) (advance 119)) h;
+      four-first = ap (λ s. answer s (advance 120)) h;
       fifth-clock = ap (λ s. played s almost .clock) h ∙ ap (λ s. s .clock) f;
       fifth-held = ap (λ s. takenOf 0 (played s almost)) h ∙ ap (λ s. takenOf 0 s) f;
       fifth-early = ap (λ s. answer (played s almost) (offer 0 42)) h ∙ ap (λ s. answer s (offer 0 42)) f;
@@ -147,4 +148,17 @@ facts =
       room-65 = refl;
       room-refuses = refl;
       room-late = refl;
+      gap-residences = refl;
+      gap-credit = refl;
+      gap-eleven = refl;
+      gap-held = refl;
+      gap-last = refl;
+      gap-free = refl;
+      gap-through = refl;
+      count-bound = refl;
+      count-residence = refl;
+      count-accepts = refl;
+      count-most = refl;
+      age-below = refl;
+      age-reached = refl;
     }

@@ -1,7 +1,7 @@
--- One table of facts: what the definitions themselves give for the specimen, for the same with two rows that name a sample rate, and for C-12's tables.
+-- One table of facts: what the definitions themselves give for the specimen, for the same with two rows that name a sample rate, for C-12's tables, and for C-13. The figures are C-13's.
 use Prim.Native.Nat.{ℕ, _+_, _≤_}
 use mathlib.Core.List.{List, [], _∷_, _++_, map}
-use mathlib.Core.Bool.{true}
+use mathlib.Core.Bool.{true, false}
 use mathlib.Core.Path.{_≡_}
 use lib.IntN.{pos, negsuc}
 use lib.ListN.{replicate}
@@ -11,16 +11,17 @@ use Rattle.table.specs.Wire.{wireSize, sizeOf, paced, periodOf, shareOf}
 use Rattle.table.specs.Rows.{contents}
 use Rattle.table.specs.Checks.{accepted, refused}
 use Rattle.table.specs.Ranges.{paceOk}
-use Rattle.planner.specs.Bound.{blocking, bounds, mostOf, mostIn}
+use Rattle.planner.specs.Bound.{blocking, residence, bound, mostOf, mostIn, bounds, residences}
 use Rattle.planner.specs.Opening.{opening}
-use Rattle.machine.specs.declared.Ended.the-variants.{Reported}
-use Rattle.machine.specs.State.{State, at, fresh}
-use Rattle.machine.specs.Record.{takenOf}
+use Rattle.machine.specs.declared.Wire.the-variants.{Free, Sending}
+use Rattle.machine.specs.declared.Ended.the-variants.{Reported, Nothing}
+use Rattle.machine.specs.State.{never, at, State, fresh}
+use Rattle.machine.specs.Record.{takenOf, sound}
 use Rattle.machine.specs.Calls.{Call, offer, offerBest, advance, Answer, taken, passed, denied, after, answer}
 use Rattle.machine.specs.Run.{Event, event, clockOf, answered, Happened, lastTaken}
 use Rattle.tablefile.specs.Reading.{readFile}
 use Rattle.tablefile.specs.Writing.{fileOf}
-use Rattle.facts.specs.Specimen.{specimen, specimenWith, specimenTable, specimenBytes, sampled, sampledTable, sampledBytes, oftenRow, often, oftenTable, oftenBytes, crowded}
+use Rattle.facts.specs.Specimen.{specimen, specimenWith, specimenTable, specimenBytes, sampled, sampledTable, sampledBytes, oftenRow, oftenWith, often, oftenTable, oftenBytes, crowded}
 
 -- The port after calls, the first one first.
 abbrev pub played : State → List Call → State
@@ -30,40 +31,59 @@ played s (c ∷ cs) = played (after s c) cs
 abbrev pub port : List Call → State
 port cs = played (fresh specimen) cs
 
--- (d): best effort 1500 offered, advance 1, row 0 offered with 58; advance 5000 passes 1541, again passes 100, credit A then 0.
+-- (d): best effort 1500 offered, advance 1, row 0 offered with 58; advance 5000 passes 1529, again passes 100, credit A 0 when 12 more have passed.
 abbrev pub inD : List Call
 inD = offerBest 1500 ∷ advance 1 ∷ offer 0 58 ∷ []
 
--- (e): row 0 with 58, advance 5000 passes 100, credit A −75,000,000, row 1 with 258, advance 1000 passes 600.
+-- (e): row 0 with 58, advance 5000 passes 88; 12 byte-times later credit A −75,000,000, row 1 with 258, advance 1000 passes 588.
+abbrev pub reportE : List Call
+reportE = offer 0 58 ∷ advance 5000 ∷ []
+
 abbrev pub inE : List Call
-inE = offer 0 58 ∷ advance 5000 ∷ offer 1 258 ∷ []
+inE = reportE ++ advance 12 ∷ offer 1 258 ∷ []
 
 -- (g): row 0 offered 15,624 after its last is 13, at 15,625 taken.
 abbrev pub inG : List Call
-inG = offer 0 58 ∷ advance 100 ∷ advance 15524 ∷ []
+inG = offer 0 58 ∷ advance 88 ∷ advance 15536 ∷ []
 
 -- A frame of row 0 of the sampled specimen, and then 17,005 byte-times, 17,006, and 17,007.
 abbrev pub soon : List Call
-soon = offer 0 58 ∷ advance 100 ∷ advance 16905 ∷ []
+soon = offer 0 58 ∷ advance 88 ∷ advance 16917 ∷ []
 
 abbrev pub once : List Call
-once = offer 0 58 ∷ advance 100 ∷ advance 16905 ∷ advance 1 ∷ []
+once = offer 0 58 ∷ advance 88 ∷ advance 16917 ∷ advance 1 ∷ []
 
 abbrev pub twice : List Call
-twice = offer 0 58 ∷ advance 100 ∷ advance 16907 ∷ []
+twice = offer 0 58 ∷ advance 88 ∷ advance 16919 ∷ []
 
 -- In every list of calls on the sampled specimen's port, an offer to row 0, of at most its payload, that comes 17,006 byte-times or more after its last frame was taken is taken: a stream that is
 -- offered every 17,006 and 17,007 byte-times in turn is never early.
 abbrev pub NeverEarly : Type 0
 NeverEarly = (cs : List Call) (payload instant gap : ℕ) (a : Answer) (before : List Event) → Happened (event (offer 0 payload) a) before (answered sampled cs) → payload ≤ 58 → lastTaken 0 before ≡ at instant → 17006 ≤ gap → clockOf before ≡ instant + gap → a ≡ taken
 
--- C-12: best effort 320 holds the wire for 362 byte-times, and row 0 is offered at 1, 121, 241 and 361: each offer a period after the last, and no frame has ended.
+-- C-12: best effort 320 holds the wire for 362 byte-times, and row 0 is offered at 1, 121, 241 and 361: each offer a period after the last, and no frame of the row has started.
+-- The third advance by 120 stops at 350, where best effort is reported.
 abbrev pub four : List Call
-four = offerBest 320 ∷ advance 1 ∷ offer 0 42 ∷ advance 120 ∷ offer 0 42 ∷ advance 120 ∷ offer 0 42 ∷ advance 120 ∷ offer 0 42 ∷ []
+four = offerBest 320 ∷ advance 1 ∷ offer 0 42 ∷ advance 120 ∷ offer 0 42 ∷ advance 120 ∷ offer 0 42 ∷ advance 120 ∷ advance 11 ∷ offer 0 42 ∷ []
 
--- Then best effort ends at 362 and the first frame of the row at 446; the clock goes on to 480, where a fifth is early by one byte-time.
+-- Then best effort leaves the wire at 362, and the first frame of the row is reported at 434 and leaves it at 446; the clock goes on to 480, where a fifth is early by one byte-time.
 abbrev pub almost : List Call
-almost = advance 120 ∷ advance 119 ∷ advance 34 ∷ []
+almost = advance 120 ∷ advance 46 ∷ []
+
+-- C-13: a port record at a clock, with the last byte of a frame of row 0 on the wire that was taken at 0.
+abbrev pub lastByteAt : ℕ → State
+lastByteAt now =
+    record {
+      table = specimen;
+      clock = now;
+      credita = pos 0;
+      creditb = pos 0;
+      a = [];
+      b = [];
+      best = [];
+      last = at 0 ∷ never ∷ never ∷ [];
+      wire = Sending (record { source = 0; size = 100; taken = 0 }) 1;
+    }
 
 pub record Facts : Type 0 where
   -- the table record says what the specimen says
@@ -72,7 +92,7 @@ pub record Facts : Type 0 where
   pub reads : readFile specimenBytes ≡ record { outcome = accepted; table = specimenTable }
   pub writes : fileOf specimen ≡ specimenBytes
   -- (a) the three bounds; HA and HB; the sheet's wire sizes
-  pub a : bounds specimen ≡ 3742 ∷ 3142 ∷ 4856 ∷ replicate 29 0
+  pub a : bounds specimen ≡ 3730 ∷ 3130 ∷ 4844 ∷ replicate 29 0
   pub a-blocking : blocking A specimen ≡ 1542
   pub b-blocking : blocking B specimen ≡ 2356
   pub a-sizes : map sizeOf (specimen .rows) ≡ 100 ∷ 300 ∷ 500 ∷ []
@@ -83,18 +103,18 @@ pub record Facts : Type 0 where
   pub c-42 : wireSize 42 ≡ 84
   pub c-43 : wireSize 43 ≡ 85
   pub c-1500 : wireSize 1500 ≡ 1542
-  pub d-first : answer (port inD) (advance 5000) ≡ passed 1541 (Reported (record { source = 32; size = 1542; taken = 0 }))
+  pub d-first : answer (port inD) (advance 5000) ≡ passed 1529 (Reported (record { source = 32; size = 1542; taken = 0 }))
   pub d-again : answer (after (port inD) (advance 5000)) (advance 5000) ≡ passed 100 (Reported (record { source = 0; size = 100; taken = 1 }))
-  pub d-credit : after (after (port inD) (advance 5000)) (advance 5000) .credita ≡ pos 0
-  pub e-first : answer (port (offer 0 58 ∷ [])) (advance 5000) ≡ passed 100 (Reported (record { source = 0; size = 100; taken = 0 }))
-  pub e-credit : port (offer 0 58 ∷ advance 5000 ∷ []) .credita ≡ negsuc 74999999
-  pub e-second : answer (port inE) (advance 1000) ≡ passed 600 (Reported (record { source = 1; size = 300; taken = 100 }))
+  pub d-credit : port (inD ++ advance 5000 ∷ advance 5000 ∷ advance 12 ∷ []) .credita ≡ pos 0
+  pub e-first : answer (port (offer 0 58 ∷ [])) (advance 5000) ≡ passed 88 (Reported (record { source = 0; size = 100; taken = 0 }))
+  pub e-credit : port (reportE ++ advance 12 ∷ []) .credita ≡ negsuc 74999999
+  pub e-second : answer (port inE) (advance 1000) ≡ passed 588 (Reported (record { source = 1; size = 300; taken = 100 }))
   pub g-clock : port inG .clock ≡ 15624
   pub g-early : answer (port inG) (offer 0 58) ≡ denied 13 0
   pub g-taken : answer (after (port inG) (advance 1)) (offer 0 58) ≡ taken
-  -- (f) deadline 3142 for row 1 accepted, 3141 refused with 10
-  pub f-3142 : opening (specimenWith 3142) ≡ accepted
-  pub f-3141 : opening (specimenWith 3141) ≡ refused 10 1
+  -- (f) deadline 3130 for row 1 accepted, 3129 refused with 10
+  pub f-3130 : opening (specimenWith 3130) ≡ accepted
+  pub f-3129 : opening (specimenWith 3129) ≡ refused 10 1
   -- rows that name a sample rate: periods; a file with such rows, read and written; the table is accepted, and its bounds are the specimen's, since sizes and slopes are
   pub rate-44100 : paced (Rated 6 44100) ≡ 17006
   pub rate-48000 : paced (Rated 6 48000) ≡ 15625
@@ -115,12 +135,13 @@ pub record Facts : Type 0 where
   pub long-table : contents oftenTable ≡ often
   pub long-reads : readFile oftenBytes ≡ record { outcome = accepted; table = oftenTable }
   pub long-writes : fileOf often ≡ oftenBytes
-  pub long-bounds : bounds often ≡ 474 ∷ replicate 31 0
+  pub long-bounds : bounds often ≡ 462 ∷ replicate 31 0
+  pub long-residence : residence often oftenRow ≡ 474
   pub long-accepts : opening often ≡ accepted
   pub long-most : mostOf often oftenRow ≡ 4
-  -- all four offers are taken, and their frames are in the port at once; the first is reported 445 byte-times after it was taken
+  -- all four offers are taken, and their frames are in the port at once; the first is reported 433 byte-times after it was taken
   pub four-held : takenOf 0 (played (fresh often) four) ≡ 1 ∷ 121 ∷ 241 ∷ 361 ∷ []
-  pub four-first : answer (played (fresh often) (four ++ advance 120 ∷ [])) (advance 119) ≡ passed 84 (Reported (record { source = 0; size = 84; taken = 1 }))
+  pub four-first : answer (played (fresh often) four) (advance 120) ≡ passed 73 (Reported (record { source = 0; size = 84; taken = 1 }))
   -- 119 byte-times after the fourth a fifth is early, though no more than three frames of the row are in the port; after 120 it is taken, and they are four again
   pub fifth-clock : played (fresh often) (four ++ almost) .clock ≡ 480
   pub fifth-held : takenOf 0 (played (fresh often) (four ++ almost)) ≡ 121 ∷ 241 ∷ 361 ∷ []
@@ -128,9 +149,28 @@ pub record Facts : Type 0 where
   pub fifth-taken : answer (played (fresh often) (four ++ almost ++ advance 1 ∷ [])) (offer 0 42) ≡ taken
   pub fifth-four : takenOf 0 (played (fresh often) (four ++ almost ++ advance 1 ∷ offer 0 42 ∷ [])) ≡ 121 ∷ 241 ∷ 361 ∷ 481 ∷ []
   -- counts that sum to 64 in a class are accepted; a byte more of best effort makes them 65, refused with 20, place 0 for A, 1 for B; a bound above its deadline comes first
-  pub room-bounds : bounds (crowded B 1380 7321) ≡ 7321 ∷ 6902 ∷ 6902 ∷ 6902 ∷ replicate 28 0
-  pub room-64 : map (λ c. mostIn c (crowded c 1379 7321)) (A ∷ B ∷ []) ≡ 64 ∷ 64 ∷ []
-  pub room-accepts : map (λ c. opening (crowded c 1379 7321)) (A ∷ B ∷ []) ≡ accepted ∷ accepted ∷ []
-  pub room-65 : map (λ c. mostIn c (crowded c 1380 7321)) (A ∷ B ∷ []) ≡ 65 ∷ 65 ∷ []
-  pub room-refuses : map (λ c. opening (crowded c 1380 7321)) (A ∷ B ∷ []) ≡ refused 20 0 ∷ refused 20 1 ∷ []
-  pub room-late : map (λ c. opening (crowded c 1380 7320)) (A ∷ B ∷ []) ≡ refused 10 0 ∷ refused 10 0 ∷ []
+  pub room-bounds : bounds (crowded B 1380 7309) ≡ 7309 ∷ 6890 ∷ 6890 ∷ 6890 ∷ replicate 28 0
+  pub room-64 : map (λ c. mostIn c (crowded c 1379 7309)) (A ∷ B ∷ []) ≡ 64 ∷ 64 ∷ []
+  pub room-accepts : map (λ c. opening (crowded c 1379 7309)) (A ∷ B ∷ []) ≡ accepted ∷ accepted ∷ []
+  pub room-65 : map (λ c. mostIn c (crowded c 1380 7309)) (A ∷ B ∷ []) ≡ 65 ∷ 65 ∷ []
+  pub room-refuses : map (λ c. opening (crowded c 1380 7309)) (A ∷ B ∷ []) ≡ refused 20 0 ∷ refused 20 1 ∷ []
+  pub room-late : map (λ c. opening (crowded c 1380 7308)) (A ∷ B ∷ []) ≡ refused 10 0 ∷ refused 10 0 ∷ []
+  -- C-13: the bounds of (a) are 12 less than the residences
+  pub gap-residences : residences specimen ≡ 3742 ∷ 3142 ∷ 4856 ∷ replicate 29 0
+  -- credit goes on falling in the gap: −66,000,000 at (e)'s first report, −75,000,000 when 12 more have passed
+  pub gap-credit : port reportE .credita ≡ negsuc 65999999
+  -- a frame is reported once: behind (e)'s first report its last 12 bytes hold the wire, and nothing is reported when they have passed
+  pub gap-eleven : answer (port reportE) (advance 11) ≡ passed 11 Nothing
+  pub gap-held : port (reportE ++ advance 11 ∷ []) .wire ≡ Sending (record { source = 0; size = 100; taken = 0 }) 1
+  pub gap-last : answer (port (reportE ++ advance 11 ∷ [])) (advance 1) ≡ passed 1 Nothing
+  pub gap-free : port (reportE ++ advance 11 ∷ advance 1 ∷ []) .wire ≡ Free
+  -- one advance runs past the end of a reported frame and on to the next report: 12 byte-times of the gap, 300 of a free wire while the credit is below 0, 288 of row 1's frame; (d)'s second, 12 and 88
+  pub gap-through : answer (port (reportE ++ offer 1 258 ∷ [])) (advance 1000) ≡ passed 600 (Reported (record { source = 1; size = 300; taken = 88 }))
+  -- the count goes by the residence: with 18 bytes more of best effort the bound of C-12's row is four periods, its deadline, and the row may have five frames in the port
+  pub count-bound : bound (oftenWith 338) oftenRow ≡ 480
+  pub count-residence : residence (oftenWith 338) oftenRow ≡ 492
+  pub count-accepts : opening (oftenWith 338) ≡ accepted
+  pub count-most : mostOf (oftenWith 338) oftenRow ≡ 5
+  -- the age in a broken record goes by the residence
+  pub age-below : sound (lastByteAt 3741) ≡ true
+  pub age-reached : sound (lastByteAt 3742) ≡ false

@@ -73,8 +73,12 @@ sampledBytes =
 abbrev pub oftenRow : Row
 oftenRow = record { class = A; payload = 42; pace = Period 120; deadline = 480 }
 
+-- With a given best-effort payload.
+abbrev pub oftenWith : ℕ → Contents
+oftenWith best = record { header = record { idlea = 750000; idleb = 0; payload = best }; rows = oftenRow ∷ [] }
+
 abbrev pub often : Contents
-often = record { header = record { idlea = 750000; idleb = 0; payload = 320 }; rows = oftenRow ∷ [] }
+often = oftenWith 320
 
 abbrev pub oftenTable : Table
 oftenTable = record { header = often .header; count = 1; rows = often .rows ++ replicate 31 noRow }

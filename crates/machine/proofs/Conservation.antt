@@ -64,7 +64,7 @@ module _ (is : Frame → Bool) where
       by-wire Free e = on-free (ready (s .credita) (s .a)) (ready (s .creditb) (s .b)) (ap onWire e)
       by-wire (Sending f l) e = refl
 
-  -- the byte that leaves so many bytes as a report waits for takes the frame from the wire to the reports
+  -- in the byte-time of its report a frame is counted among the reports and no longer on the wire
   byte-reports : (f : Frame) (l : ℕ) → cond (ltb leftAtReport l) (count (is f)) 0 + ended (cond (eqb (suc l) (suc leftAtReport)) (Reported f) Nothing) ≡ cond (ltb leftAtReport (suc l)) (count (is f)) 0
   byte-reports f l = go (ltb leftAtReport l) (eqb (suc l) (suc leftAtReport)) refl refl
     where

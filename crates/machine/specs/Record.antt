@@ -1,4 +1,4 @@
--- When a record is broken: the clauses of document 01, as C-12 has them, each with a name, stated as what a sound record has.
+-- When a record is broken: the clauses of document 01, as C-12 and C-13 have them, each with a name, stated as what a sound record has.
 use Prim.Native.Nat.{ℕ, zero, suc, _+_, _-_, _*_, max}
 use mathlib.Core.Bool.{Bool, true, false, cond, _&&_, _||_}
 use mathlib.Core.List.{List, [], _∷_, _++_}
@@ -131,7 +131,7 @@ upTo (suc n) ok = upTo n ok && ok n
 abbrev pub eachRow : (ℕ → Bool) → State → Bool
 eachRow ok s = upTo (length (s .table .rows)) ok
 
--- A row has no more frames in the port than its bound divided by its period, rounded up.
+-- A row has no more frames in the port than its residence divided by its period, rounded up.
 unfoldable pub heldSound : State → Bool
 heldSound s = eachRow (λ k. leb (length (takenOf k s)) (mostOf (s .table) (rowAt (s .table) k))) s
 
@@ -174,7 +174,7 @@ rowOnly unshaped ok = true
 abbrev pub eachRowFrame : (Frame → Bool) → State → Bool
 eachRowFrame ok s = (allOf ok (s .a) && allOf ok (s .b)) && onSending (λ f left. rowOnly (owner (s .table) f) (ok f)) (s .wire)
 
--- A row's frame is younger than its residence, which is as long as its bound.
+-- A row's frame is younger than its residence.
 unfoldable pub ageSound : State → Bool
 ageSound s = eachRowFrame (λ f. ltb (s .clock - f .taken) (residence (s .table) (rowAt (s .table) (f .source)))) s
 

@@ -1,5 +1,5 @@
 -- One byte-time, in four steps, and byte-times until a frame is reported ended.
-use Prim.Native.Nat.{ℕ, zero, suc, _+_}
+use Prim.Native.Nat.{ℕ, zero, suc}
 use mathlib.Core.Bool.{Bool, true, false, cond}
 use mathlib.Core.List.{List, [], _∷_}
 use lib.IntN.{ℤ, pos, negsuc, _+ℤ_, _-ℤ_}
@@ -90,7 +90,7 @@ wireAfter (Sending f (suc (suc left))) = Sending f (suc left)
 abbrev pub pass : State → State
 pass s = withClock (suc (s .clock)) (withWire (wireAfter (s .wire)) s)
 
--- A frame has ended, and is reported, in the byte-time that leaves `leftAtReport` of its bytes: its last.
+-- A frame has ended, and is reported, in the byte-time that leaves `leftAtReport` of its bytes. Those still pass, and the frame is reported no second time.
 unfoldable pub reportedIn : Wire → Ended
 reportedIn Free = Nothing
 reportedIn (Sending f left) = cond (eqb left (suc leftAtReport)) (Reported f) Nothing
@@ -114,7 +114,7 @@ byteTime s = settle (pass (earn (start s)))
 unfoldable pub endsIn : State → Ended
 endsIn s = reportedIn (start s .wire)
 
--- Byte-times until a frame ends or n have passed.
+-- Byte-times until a frame is reported or n have passed.
 pub record Progress : Type 0 where
   pub state : State
   pub passed : ℕ

@@ -80,7 +80,7 @@ pub enum Offer {
     Refused(Denial),
 }
 
-// The frame that ended in an advance, or none.
+// The frame that an advance reports ended, or none.
 pub enum Ended {
     Reported(Frame),
     Nothing,

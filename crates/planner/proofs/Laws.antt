@@ -23,8 +23,8 @@ use Rattle.planner.specs.Bound.{blocking, residenceIn, residence, bound,
 use Rattle.planner.specs.Opening.{usedOk, slopesOk, sharesOk, timely, roomOk, opening, IsAccepted}
 use Rattle.planner.proofs.Members.{sum-at, max-at}
 use Rattle.planner.proofs.Checks.{opening-passes, slope-limits}
--- the bound of a row in the list of bounds
-pub use Rattle.planner.proofs.Limits.{bounds-row}
+-- the bound of a row in the list of bounds, and its residence in that of residences
+pub use Rattle.planner.proofs.Limits.{bounds-row, residences-row}
 
 -- ---- sums over a class
 pub sum-none : (c : Class) (f : Row → ℕ) → sumOver c f [] ≡ 0

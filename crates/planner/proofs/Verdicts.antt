@@ -1,29 +1,46 @@
--- A plan is right at each of its ends: a refusal by the check that decides, and acceptance.
-use Prim.Native.Nat.{ℕ, _≤_, _<_}
+-- A plan is right at each of its ends: a refusal by the check that decides, and acceptance. Its residences make the bounds.
+use Prim.Native.Nat.{ℕ, zero, suc, _-_, _≤_, _<_}
 use mathlib.Core.Bool.{true, false}
-use mathlib.Core.List.{List}
-use mathlib.Core.Path.{_≡_, refl, sym}
-use lib.ListN.{length}
+use mathlib.Core.List.{List, [], _∷_, _++_, map}
+use mathlib.Core.Path.{_≡_, refl, sym, ap}
+use lib.ListN.{length, replicate}
 use borrow.Author.Tests.{le-leb, lt-leb}
 use Rattle.table.specs.declared.Class.the-variants.{A, B}
+use Rattle.table.specs.declared.Row.{Row}
 use Rattle.table.specs.declared.Refusal.{Refusal}
 use Rattle.table.specs.declared.Verdict.the-variants.{Accepted}
+use Rattle.table.specs.Limits.{mostRows}
 use Rattle.table.specs.Rows.{Contents}
-use Rattle.table.specs.Checks.{accepted, refused, numberOf, placeOf, passing}
+use Rattle.table.specs.Checks.{Outcome, accepted, refused, numberOf, placeOf, passing}
 use Rattle.table.specs.Ranges.{ranged}
 use Rattle.planner.specs.declared.Lane.{Lane}
 use Rattle.planner.specs.declared.Plan.{Plan}
-use Rattle.planner.specs.Bound.{bounds}
+use Rattle.planner.specs.Bound.{residence, untilReport, bound, bounds, residences}
 use Rattle.planner.specs.Opening.{slopesOk, sharesOk, timely, roomOk, opening}
-use Rattle.planner.specs.Plan.{laneOf, Planned}
+use Rattle.planner.specs.Plan.{laneOf, boundsAt, residencesAt, Planned}
 use Rattle.planner.specs.Steps.{refusedPlan, Passed}
+
+-- the residences of a table, each up to its report, are its bounds
+zeros : (n : ℕ) → map untilReport (replicate n 0) ≡ replicate n 0
+zeros zero = refl
+zeros (suc n) = ap (λ (l : List ℕ). 0 ∷ l) (zeros n)
+
+until-rows : (t : Contents) (rs : List Row) (n : ℕ) → map untilReport (map (residence t) rs ++ replicate n 0) ≡ map (bound t) rs ++ replicate n 0
+unfolding bound
+until-rows t [] n = zeros n
+until-rows t (r ∷ rs) n = ap (λ (l : List ℕ). untilReport (residence t r) ∷ l) (until-rows t rs n)
+
+pub until-reports : (t : Contents) (o : Outcome) → map untilReport (residencesAt o t) ≡ boundsAt o t
+unfolding residences bounds
+until-reports t accepted = until-rows t (t .rows) (mostRows - length (t .rows))
+until-reports t (refused n p) = zeros mostRows
 
 module _ (t : Contents) where
   pub refused-right : (r : Refusal) {p : Plan} → opening t ≡ refused (numberOf r) (placeOf r) → p ≡ refusedPlan r → Planned t p
-  refused-right r e f = rw f (record { verdict = sym e; a = rw e refl; b = rw e refl; bounds = rw e refl })
+  refused-right r e f = rw f (record { verdict = sym e; a = rw e refl; b = rw e refl; residences = rw e refl })
 
-  pub accepted-right : {a b : Lane} {bs : List ℕ} → opening t ≡ accepted → a ≡ laneOf A t → b ≡ laneOf B t → bs ≡ bounds t → Planned t (record { verdict = Accepted; a = a; b = b; bounds = bs })
-  accepted-right e ea eb es = record { verdict = sym e; a = rw e ea; b = rw e eb; bounds = rw e es }
+  pub accepted-right : {a b : Lane} {rs : List ℕ} → opening t ≡ accepted → a ≡ laneOf A t → b ≡ laneOf B t → rs ≡ residences t → Planned t (record { verdict = Accepted; a = a; b = b; residences = rs })
+  accepted-right e ea eb es = record { verdict = sym e; a = rw e ea; b = rw e eb; residences = rw e es }
 
   pub by-range : {n p : ℕ} → ranged t ≡ refused n p → opening t ≡ refused n p
   unfolding opening

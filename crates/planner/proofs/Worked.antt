@@ -1,9 +1,9 @@
--- Bounds as the code works them out: from a row's wire size and its class.
+-- Residences as the code works them out: from a row's wire size and its class.
 use Prim.Native.Nat.{ℕ, _≤_, _<_}
 use mathlib.Core.Bool.{true}
 use mathlib.Core.Logic.{⊎-elim}
-use mathlib.Core.Path.{_≡_, sym, _∙_}
-use native.Mathlib.Nat.{eq-zero-or-pos, sub-zero}
+use mathlib.Core.Path.{_≡_, refl, _∙_}
+use native.Mathlib.Nat.{eq-zero-or-pos}
 use native.Mathlib.Omega.{arith}
 use lib.Dec.{eqb}
 use lib.ListN.{length, getD}
@@ -16,10 +16,10 @@ use Rattle.table.specs.Limits.{mostRows}
 use Rattle.table.specs.Wire.{sizeOf}
 use Rattle.table.specs.Rows.{noRow, Contents, contents}
 use Rattle.planner.specs.Sums.{members, idle}
-use Rattle.planner.specs.Bound.{residenceIn, residence, bound}
+use Rattle.planner.specs.Bound.{residenceIn, residence}
 use Rattle.planner.specs.Opening.{usedOk}
 use Rattle.planner.specs.Plan.{laneOf}
-use Rattle.planner.specs.Steps.{pickLane, boundWith, Modest, Lanes}
+use Rattle.planner.specs.Steps.{pickLane, residenceWith, Modest, Lanes}
 use Rattle.planner.proofs.Limits.{counted, summed}
 
 picked : (k : Class) (t : Contents) {a b : Lane} → a ≡ laneOf A t → b ≡ laneOf B t → pickLane k a b ≡ laneOf k t
@@ -49,13 +49,13 @@ module _ (t : Table) (long : length (t .rows) ≡ 32) (few : t .count ≤ mostRo
   is-lane : l ≡ laneOf (getD (t .rows) i noRow .class) (contents t)
   is-lane = el ∙ picked (getD (t .rows) i noRow .class) (contents t) (ready .is-a) (ready .is-b)
 
-  pub bound-ready : Modest l × ((0 < l .idle) × (s ≤ l .total))
-  bound-ready =
+  pub residence-ready : Modest l × ((0 < l .idle) × (s ≤ l .total))
+  residence-ready =
       let k = getD (t .rows) i noRow .class in (
         rw el (modest k (ready .modest-a) (ready .modest-b)),
         (rw is-lane (class-used k (contents t) (used-both k (contents t) (ready .used-a) (ready .used-b)) (counted t long few i h)), rw (is-lane, es) (summed t long few i h)),
       )
 
-  pub bound-worked : boundWith s l ≡ bound (contents t) (getD (t .rows) i noRow)
-  unfolding bound residence residenceIn
-  bound-worked = rw (is-lane, es) (sym (sub-zero _))
+  pub residence-worked : residenceWith s l ≡ residence (contents t) (getD (t .rows) i noRow)
+  unfolding residence residenceIn
+  residence-worked = rw (is-lane, es) refl

@@ -1,4 +1,4 @@
--- Blocking and bounds, and how many frames may be in the port.
+-- Blocking, residences and bounds, and how many frames may be in the port.
 use Prim.Native.Nat.{ℕ, _+_, _-_, _*_, _/_, max}
 use mathlib.Core.List.{List, map, _++_}
 use lib.ListN.{length, replicate}
@@ -15,8 +15,8 @@ unfoldable pub blocking : Class → Contents → ℕ
 blocking A t = max (largest B t) (bestSize t)
 blocking B t = largest A t + ceilDiv (max (D * bestSize t) (idle A t * largest B t)) (send A t)
 
--- A row's residence, the longest that a frame of it is in the port: C + H + (D × (sum of C over its class − C) + S × L) / I, the quotient rounded down, S, L and I
--- being its class's.
+-- A row's residence, the longest that a frame of it is in the port, gap included; before C-13 it was the bound: C + H + (D × (sum of C over its class − C) + S × L) / I,
+-- the quotient rounded down, S, L and I being its class's.
 unfoldable pub residenceIn : Class → Contents → Row → ℕ
 residenceIn c t r = sizeOf r + blocking c t + (D * (total c t - sizeOf r) + send c t * largest c t) / idle c t
 
@@ -24,10 +24,13 @@ unfoldable pub residence : Contents → Row → ℕ
 residence t r = residenceIn (r .class) t r
 
 -- A row's bound, the longest from the instant that its frame is taken to the frame's report: its residence, less the bytes that are left at the report.
-unfoldable pub bound : Contents → Row → ℕ
-bound t r = residence t r - leftAtReport
+abbrev pub untilReport : ℕ → ℕ
+untilReport n = n - leftAtReport
 
--- How many frames of a row may be in the port: its residence, which is as long as its bound, divided by its period, rounded up.
+unfoldable pub bound : Contents → Row → ℕ
+bound t r = untilReport (residence t r)
+
+-- How many frames of a row may be in the port: its residence divided by its period, rounded up.
 unfoldable pub mostOf : Contents → Row → ℕ
 mostOf t r = ceilDiv (residence t r) (periodOf r)
 
@@ -35,6 +38,12 @@ mostOf t r = ceilDiv (residence t r) (periodOf r)
 unfoldable pub mostIn : Class → Contents → ℕ
 mostIn c t = sumOver c (mostOf t) (t .rows)
 
--- The 32 bounds of a table, 0 in each place behind the last row.
+-- The 32 bounds of a table, 0 in each place behind the last row; and so the residences.
+abbrev pub eachOf : (Row → ℕ) → Contents → List ℕ
+eachOf f t = map f (t .rows) ++ replicate (mostRows - length (t .rows)) 0
+
 unfoldable pub bounds : Contents → List ℕ
-bounds t = map (bound t) (t .rows) ++ replicate (mostRows - length (t .rows)) 0
+bounds t = eachOf (bound t) t
+
+unfoldable pub residences : Contents → List ℕ
+residences t = eachOf (residence t) t

@@ -1,4 +1,4 @@
--- What the planner works out: sums over a class, blocking, bounds, how many frames may be in the port, and acceptance.
+-- What the planner works out: sums over a class, blocking, residences and bounds, how many frames may be in the port, and acceptance.
 pub mod Sums
 pub mod Bound
 pub mod Opening

@@ -12,10 +12,10 @@ use Rattle.planner.specs.declared.Lane.{Lane}
 use Rattle.planner.specs.declared.Plan.{Plan}
 use Rattle.planner.specs.declared.Sheet.{Sheet}
 use Rattle.planner.specs.Sums.{idle, largest, total}
-use Rattle.planner.specs.Bound.{blocking, bounds}
+use Rattle.planner.specs.Bound.{blocking, bounds, residences}
 use Rattle.planner.specs.Opening.{opening}
 
--- What a class's bounds are made of.
+-- What a class's residences are made of.
 abbrev pub laneOf : Class → Contents → Lane
 laneOf c t = record { idle = idle c t; largest = largest c t; total = total c t; blocking = blocking c t }
 
@@ -28,20 +28,26 @@ abbrev pub laneAt : Outcome → Class → Contents → Lane
 laneAt accepted c t = laneOf c t
 laneAt (refused n p) c t = noLane
 
--- An accepted table's bounds; zeros at a refusal.
-abbrev pub noBounds : List ℕ
-noBounds = replicate mostRows 0
+-- An accepted table's bounds, and its residences; zeros at a refusal.
+abbrev pub noTimes : List ℕ
+noTimes = replicate mostRows 0
+
+abbrev pub timesAt : Outcome → List ℕ → List ℕ
+timesAt accepted l = l
+timesAt (refused n p) l = noTimes
 
 abbrev pub boundsAt : Outcome → Contents → List ℕ
-boundsAt accepted t = bounds t
-boundsAt (refused n p) t = noBounds
+boundsAt o t = timesAt o (bounds t)
 
--- The answer of `plan`: what opening says, and an accepted table's classes and bounds, zeros at a refusal.
+abbrev pub residencesAt : Outcome → Contents → List ℕ
+residencesAt o t = timesAt o (residences t)
+
+-- The answer of `plan`: what opening says, and an accepted table's classes and residences, zeros at a refusal.
 pub record Planned (t : Contents) (r : Plan) : Type 0 where
   pub verdict : outcomeOf (r .verdict) ≡ opening t
   pub a : r .a ≡ laneAt (opening t) A t
   pub b : r .b ≡ laneAt (opening t) B t
-  pub bounds : r .bounds ≡ boundsAt (opening t) t
+  pub residences : r .residences ≡ residencesAt (opening t) t
 
 -- The answer of `bounds`: what opening says, and an accepted table's bounds, zeros at a refusal.
 pub record Shown (t : Contents) (r : Sheet) : Type 0 where

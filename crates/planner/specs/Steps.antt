@@ -22,7 +22,7 @@ use Rattle.planner.specs.declared.Judgement.{Judgement}
 use Rattle.planner.specs.Sums.{part, members, largest, total, shares}
 use Rattle.planner.specs.Bound.{mostIn}
 use Rattle.planner.specs.Opening.{sameTest, usedOk, slopesOk, sharesOk, timely}
-use Rattle.planner.specs.Plan.{laneOf, noLane, noBounds}
+use Rattle.planner.specs.Plan.{laneOf, noLane, noTimes}
 
 -- A class's figures, in one record.
 abbrev pub figuresOf : Class → Contents → Figures
@@ -52,7 +52,7 @@ joined f c r =
       shares = f .shares + part c shareOf r;
     }
 
--- Rule 8 and a class's bounds, from the header and both classes' figures.
+-- Rule 8 and what a class's residences are made of, from the header and both classes' figures.
 abbrev pub slopesBy : Header → Figures → Figures → Bool
 slopesBy h a b = (sameTest (eqb (h .idlea) 0) (eqb (a .members) 0) && sameTest (eqb (h .idleb) 0) (eqb (b .members) 0)) && leb (h .idlea + h .idleb) mostSlope
 
@@ -62,9 +62,9 @@ laneA h a b = record { idle = h .idlea; largest = a .largest; total = a .total; 
 abbrev pub laneB : Header → Figures → Figures → Lane
 laneB h a b = record { idle = h .idleb; largest = b .largest; total = b .total; blocking = a .largest + ceilDiv (max (D * wireSize (h .payload)) (h .idlea * b .largest)) (D - h .idlea) }
 
--- A row's bound, from its wire size and its class.
-abbrev pub boundWith : ℕ → Lane → ℕ
-boundWith c l = c + l .blocking + (D * (l .total - c) + (D - l .idle) * l .largest) / l .idle
+-- A row's residence, from its wire size and its class.
+abbrev pub residenceWith : ℕ → Lane → ℕ
+residenceWith c l = c + l .blocking + (D * (l .total - c) + (D - l .idle) * l .largest) / l .idle
 
 -- The one of two classes that is named.
 abbrev pub pickLane : Class → Lane → Lane → Lane
@@ -73,7 +73,7 @@ pickLane B a b = b
 
 -- A refusal, with zeros for figures.
 abbrev pub refusedPlan : Refusal → Plan
-refusedPlan r = record { verdict = Refused r; a = noLane; b = noLane; bounds = noBounds }
+refusedPlan r = record { verdict = Refused r; a = noLane; b = noLane; residences = noTimes }
 
 -- The figures of both classes.
 pub record Summed (t : Contents) (a b : Figures) : Type 0 where

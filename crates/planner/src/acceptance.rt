@@ -6,14 +6,15 @@ ghost use Rattle.table.specs.Limits.{mostRows, mostSlope};
 ghost use Rattle.table.specs.Wire.{ceilDiv, periodOf};
 ghost use Rattle.table.specs.Rows.{contents};
 ghost use Rattle.planner.specs.Sums.{part};
-ghost use Rattle.planner.specs.Bound.{bounds};
+ghost use Rattle.planner.specs.Bound.{residences};
 ghost use Rattle.planner.specs.Opening.{sameTest};
 ghost use Rattle.planner.specs.Plan.{Planned};
-ghost use Rattle.planner.specs.Steps.{Small, slopesBy, laneA, laneB, pickLane, boundWith, refusedPlan, Summed, Passed, Modest, Lanes, JudgementOf};
+ghost use Rattle.planner.specs.Steps.{Small, slopesBy, laneA, laneB, pickLane, residenceWith, refusedPlan, Summed, Passed, Modest, Lanes, JudgementOf};
 use crate::Figures;
 use crate::Judgement;
 use crate::Lane;
 use crate::Plan;
+use crate::reports::bound_of;
 use crate::sums::figures;
 use table::CLASS_PLACES;
 use table::Class;
@@ -101,21 +102,21 @@ fn lane(class: Class, a: Lane, b: Lane) -> Lane
     }
 }
 
-// A row's bound, from its wire size and its class.
-fn row_bound(c: u64, l: Lane) -> u64
+// A row's residence, from its wire size and its class.
+fn row_residence(c: u64, l: Lane) -> u64
     requires { ⌜ Modest l ⌝ }
     requires { ⌜ 0 < l .idle ⌝ }
     requires { ⌜ c ≤ l .total ⌝ }
-    ensures { λ r. ⌜ r ≡ boundWith c l ⌝ }
+    ensures { λ r. ⌜ r ≡ residenceWith c l ⌝ }
 {
     let send = D - l.idle;
     c + l.blocking + (D * (l.total - c) + send * l.largest) / l.idle
 }
 
-fn row_bounds(t: Table, a: Lane, b: Lane) -> [u64; ROWS]
+fn row_residences(t: Table, a: Lane, b: Lane) -> [u64; ROWS]
     requires { ⌜ t .count ≤ mostRows ⌝ }
     requires { ⌜ Lanes (contents t) a b ⌝ }
-    ensures { λ r. ⌜ r ≡ bounds (contents t) ⌝ }
+    ensures { λ r. ⌜ r ≡ residences (contents t) ⌝ }
 {
     let n = t.count;
     let mut out = [0u64; ROWS];
@@ -125,33 +126,33 @@ fn row_bounds(t: Table, a: Lane, b: Lane) -> [u64; ROWS]
         let of = row.class;
         let l = lane(of, a, b);
         let c = size(row);
-        out[i] = row_bound(c, l);
+        out[i] = row_residence(c, l);
         i += 1;
     }
     out
 }
 
-// What a row adds to the frames that a class may have in the port: its bound divided by its period, rounded up. That is 1 where the bound is within the period.
-fn most_of(class: Class, row: Row, limit: u64) -> u64
-    requires { ⌜ 0 < limit ⌝ }
-    ensures { λ r. ⌜ r ≡ part class (λ x. ceilDiv limit (periodOf x)) row ⌝ }
-    ensures small { λ r. ⌜ r ≤ limit ⌝ }
+// What a row adds to the frames that a class may have in the port: its residence divided by its period, rounded up. That is 1 where the residence is within the period.
+fn most_of(class: Class, row: Row, residence: u64) -> u64
+    requires { ⌜ 0 < residence ⌝ }
+    ensures { λ r. ⌜ r ≡ part class (λ x. ceilDiv residence (periodOf x)) row ⌝ }
+    ensures small { λ r. ⌜ r ≤ residence ⌝ }
 {
     let of = row.class;
     if !same_class(class, of) {
         return 0;
     }
     let p = period(row);
-    if limit <= p {
+    if residence <= p {
         return 1;
     }
-    ceil_div(limit, p)
+    ceil_div(residence, p)
 }
 
-// The rows' bounds held against their deadlines, and counted against their periods, up to the first row that is late.
-fn judged(t: Table, limits: [u64; ROWS]) -> Judgement
+// The rows' bounds held against their deadlines, and their residences counted against their periods, up to the first row that is late.
+fn judged(t: Table, times: [u64; ROWS]) -> Judgement
     requires { ⌜ t .count ≤ mostRows ⌝ }
-    requires { ⌜ limits ≡ bounds (contents t) ⌝ }
+    requires { ⌜ times ≡ residences (contents t) ⌝ }
     ensures { λ r. ⌜ JudgementOf (contents t) r ⌝ }
 {
     let n = t.count;
@@ -160,12 +161,13 @@ fn judged(t: Table, limits: [u64; ROWS]) -> Judgement
     let mut i: usize = 0;
     while i < n {
         let this = t.rows[i];
-        let limit = limits[i];
-        if (this.deadline as u64) < limit {
+        let residence = times[i];
+        let bound = bound_of(residence);
+        if (this.deadline as u64) < bound {
             return Judgement { timely: i, a, b };
         }
-        a += most_of(Class::A, this, limit);
-        b += most_of(Class::B, this, limit);
+        a += most_of(Class::A, this, residence);
+        b += most_of(Class::B, this, residence);
         i += 1;
     }
     Judgement { timely: i, a, b }
@@ -185,7 +187,7 @@ fn refused(r: Refusal) -> Plan
         verdict: Verdict::Refused(r),
         a: none,
         b: none,
-        bounds: [0; ROWS],
+        residences: [0; ROWS],
     }
 }
 
@@ -198,8 +200,8 @@ fn timely_plan(t: Table, f: Figures, g: Figures) -> Plan
     let h = t.header;
     let a = lane_a(h, f, g);
     let b = lane_b(h, f, g);
-    let bounds = row_bounds(t, a, b);
-    let found = judged(t, bounds);
+    let residences = row_residences(t, a, b);
+    let found = judged(t, residences);
     if found.timely < t.count {
         return refused(Refusal::Deadline(found.timely));
     }
@@ -213,11 +215,11 @@ fn timely_plan(t: Table, f: Figures, g: Figures) -> Plan
         verdict: Verdict::Accepted,
         a,
         b,
-        bounds,
+        residences,
     }
 }
 
-// A table's verdict, and of an accepted table its classes and the bound of each row.
+// A table's verdict, and of an accepted table its classes and the residence of each row.
 pub fn plan(t: Table) -> Plan
     ensures { λ r. ⌜ Planned (contents t) r ⌝ }
 {

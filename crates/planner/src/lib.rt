@@ -1,4 +1,4 @@
-// Blocking, bounds and acceptance of a table.
+// Blocking, residences, bounds and acceptance of a table.
 ghost use mathlib.Core.Path.{_≡_};
 ghost use Rattle.table.specs.Rows.{contents};
 ghost use Rattle.table.specs.Checks.{outcomeOf};
@@ -6,9 +6,11 @@ ghost use Rattle.planner.specs.Opening.{opening};
 ghost use Rattle.planner.specs.Plan.{Shown};
 
 pub mod acceptance;
+mod reports;
 mod sums;
 
 use crate::acceptance::plan;
+use crate::reports::bounds_of;
 use table::ROWS;
 use table::Table;
 use table::Verdict;
@@ -28,7 +30,7 @@ struct Judgement {
     b: u64,
 }
 
-// What a class's bounds are made of: idle slope, largest wire size, sum of wire sizes, blocking.
+// What a class's residences are made of: idle slope, largest wire size, sum of wire sizes, blocking.
 pub struct Lane {
     pub idle: u64,
     pub largest: u64,
@@ -36,12 +38,12 @@ pub struct Lane {
     pub blocking: u64,
 }
 
-// A verdict, and of an accepted table its classes and the bound of each row; zeros at a refusal.
+// A verdict, and of an accepted table its classes and the residence of each row; zeros at a refusal.
 pub struct Plan {
     pub verdict: Verdict,
     pub a: Lane,
     pub b: Lane,
-    pub bounds: [u64; ROWS],
+    pub residences: [u64; ROWS],
 }
 
 // A verdict with the 32 bounds: 0 in each place behind the last row, and all 0 at a refusal.
@@ -62,7 +64,8 @@ pub fn bounds(t: Table) -> Sheet
     ensures { λ r. ⌜ Shown (contents t) r ⌝ }
 {
     let p = plan(t);
-    let bounds = p.bounds;
+    let residences = p.residences;
+    let bounds = bounds_of(residences);
     let verdict = p.verdict;
     Sheet { verdict, bounds }
 }

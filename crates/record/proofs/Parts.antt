@@ -13,7 +13,7 @@ use Rattle.table.specs.Wire.{periodOf}
 use Rattle.table.specs.Rows.{Contents, rowAt, InUse}
 use Rattle.planner.specs.Sums.{bestSize}
 use Rattle.table.proofs.Laws as table
-use Rattle.planner.specs.Bound.{residence, bounds, mostOf}
+use Rattle.planner.specs.Bound.{residence, mostOf, residences}
 use Rattle.planner.specs.Opening.{IsAccepted}
 use Rattle.planner.proofs.Laws as law
 use Rattle.machine.specs.declared.Frame.{Frame}
@@ -84,22 +84,22 @@ module _ (c : Class) (t : Contents) (now : ℕ) (q : List Frame) where
   timely f = takenBy now f && youngBy t now f
 
   -- a row's limit is its residence
-  frame-tests : (f : Frame) → frameTest c t (bounds t) now f ≡ (namesRow t f && (fits f && timely f))
+  frame-tests : (f : Frame) → frameTest c t (residences t) now f ≡ (namesRow t f && (fits f && timely f))
   unfolding frameTest rowTest
   frame-tests f = go (namesRow t f) refl
     where
-      go : (b : Bool) → namesRow t f ≡ b → frameTest c t (bounds t) now f ≡ (namesRow t f && (fits f && timely f))
+      go : (b : Bool) → namesRow t f ≡ b → frameTest c t (residences t) now f ≡ (namesRow t f && (fits f && timely f))
       go true e =
-          let limit : getD (bounds t) (f .source) 0 ≡ residence t (rowAt t (f .source)) = omega (arith, law.bounds-row t (f .source) (table.is-used t (f .source) e), law.bound-report t (rowAt t (f .source))) in
+          let limit : getD (residences t) (f .source) 0 ≡ residence t (rowAt t (f .source)) = law.residences-row t (f .source) (table.is-used t (f .source) e) in
           rw (e, limit) refl
       go false e = rw e refl
 
-  queue-tests : allOf (frameTest c t (bounds t) now) q ≡ (allOf (namesRow t) q && ((allOf (rowIn c t) q && allOf (rowSize t) q) && (allOf (takenBy now) q && allOf (youngBy t now) q)))
+  queue-tests : allOf (frameTest c t (residences t) now) q ≡ (allOf (namesRow t) q && ((allOf (rowIn c t) q && allOf (rowSize t) q) && (allOf (takenBy now) q && allOf (youngBy t now) q)))
   queue-tests =
-      rw (all-same (frameTest c t (bounds t) now) (λ f. namesRow t f && (fits f && timely f)) frame-tests q, all-both (namesRow t) (λ f. fits f && timely f) q, all-both fits timely q, all-both (rowIn c t) (rowSize t) q, all-both (takenBy now) (youngBy t now) q)
+      rw (all-same (frameTest c t (residences t) now) (λ f. namesRow t f && (fits f && timely f)) frame-tests q, all-both (namesRow t) (λ f. fits f && timely f) q, all-both fits timely q, all-both (rowIn c t) (rowSize t) q, all-both (takenBy now) (youngBy t now) q)
       refl
 
-  of-queue : allOf (frameTest c t (bounds t) now) q ≡ true → OfQueue c t now q
+  of-queue : allOf (frameTest c t (residences t) now) q ≡ true → OfQueue c t now q
   of-queue e =
       let p = table.and-true (allOf (namesRow t) q) _ (sym queue-tests ∙ e) in
       let f = table.and-true (allOf (rowIn c t) q && allOf (rowSize t) q) _ (p .1) in
@@ -107,7 +107,7 @@ module _ (c : Class) (t : Contents) (now : ℕ) (q : List Frame) where
       let h = table.and-true (allOf (takenBy now) q) (allOf (youngBy t now) q) (f .1) in
       record { names = p .0; class = g .0; sizes = g .1; taken = h .0; young = h .1 }
 
-  queue-passes : OfQueue c t now q → allOf (frameTest c t (bounds t) now) q ≡ true
+  queue-passes : OfQueue c t now q → allOf (frameTest c t (residences t) now) q ≡ true
   queue-passes p = queue-tests ∙ rw (p .names, p .class, p .sizes, p .taken, p .young) refl
 
 -- ---- the best-effort queue
@@ -155,17 +155,17 @@ module _ (t : Contents) (now : ℕ) where
     abbrev own : Class
     own = rowAt t (f .source) .class
 
-    by-row : namesRow t f ≡ true → sendingTest t (bounds t) now f left ≡ (bytes && frameTest own t (bounds t) now f)
+    by-row : namesRow t f ≡ true → sendingTest t (residences t) now f left ≡ (bytes && frameTest own t (residences t) now f)
     unfolding sendingTest
     by-row n = rw n refl
 
-    by-mark : namesRow t f ≡ false → sendingTest t (bounds t) now f left ≡ (bytes && bestTest (bestSize t) now f)
+    by-mark : namesRow t f ≡ false → sendingTest t (residences t) now f left ≡ (bytes && bestTest (bestSize t) now f)
     unfolding sendingTest
     by-mark n = rw n refl
 
-    of-row : namesRow t f ≡ true → sendingTest t (bounds t) now f left ≡ true → OfWire t now (Sending f left)
+    of-row : namesRow t f ≡ true → sendingTest t (residences t) now f left ≡ true → OfWire t now (Sending f left)
     of-row n e =
-        let p = table.and-true bytes (frameTest own t (bounds t) now f) (sym (by-row n) ∙ e) in
+        let p = table.and-true bytes (frameTest own t (residences t) now f) (sym (by-row n) ∙ e) in
         let q = of-queue own t now (f ∷ []) (rw (p .1) refl) in
         record {
           names = rw n refl;
@@ -175,7 +175,7 @@ module _ (t : Contents) (now : ℕ) where
           young = rw (owned f n) (table.and-true (youngBy t now f) true (q .young) .0);
         }
 
-    of-mark : namesRow t f ≡ false → sendingTest t (bounds t) now f left ≡ true → OfWire t now (Sending f left)
+    of-mark : namesRow t f ≡ false → sendingTest t (residences t) now f left ≡ true → OfWire t now (Sending f left)
     of-mark n e =
         let p = table.and-true bytes (bestTest (bestSize t) now f) (sym (by-mark n) ∙ e) in
         let q = of-best (bestSize t) now (f ∷ []) (rw (p .1) refl) in
@@ -187,15 +187,15 @@ module _ (t : Contents) (now : ℕ) where
           young = rw (unowned f n) refl;
         }
 
-    row-passes : namesRow t f ≡ true → OfWire t now (Sending f left) → sendingTest t (bounds t) now f left ≡ true
+    row-passes : namesRow t f ≡ true → OfWire t now (Sending f left) → sendingTest t (residences t) now f left ≡ true
     row-passes n w =
         let sizes : rowSize t f ≡ true = rw (owned f n) at (w .sizes) in
         let young : youngBy t now f ≡ true = rw (owned f n) at (w .young) in
         let q : OfQueue own t now (f ∷ []) = record { names = rw n refl; class = rw (table.same-self own) refl; sizes = rw sizes refl; taken = rw (w .taken) refl; young = rw young refl } in
-        let e = table.and-true (frameTest own t (bounds t) now f) true (queue-passes own t now (f ∷ []) q) .0 in
+        let e = table.and-true (frameTest own t (residences t) now f) true (queue-passes own t now (f ∷ []) q) .0 in
         by-row n ∙ rw (w .left, e) refl
 
-    mark-passes : namesRow t f ≡ false → OfWire t now (Sending f left) → sendingTest t (bounds t) now f left ≡ true
+    mark-passes : namesRow t f ≡ false → OfWire t now (Sending f left) → sendingTest t (residences t) now f left ≡ true
     mark-passes n w =
         let sizes : sizeWithin (bestSize t) f ≡ true = rw (unowned f n) at (w .sizes) in
         let marks : isBest f ≡ true = rw n at (w .names) in
@@ -203,7 +203,7 @@ module _ (t : Contents) (now : ℕ) where
         let e = table.and-true (bestTest (bestSize t) now f) true (best-passes (bestSize t) now (f ∷ []) q) .0 in
         by-mark n ∙ rw (w .left, e) refl
 
-  of-wire : (w : Wire) → onSending (sendingTest t (bounds t) now) w ≡ true → OfWire t now w
+  of-wire : (w : Wire) → onSending (sendingTest t (residences t) now) w ≡ true → OfWire t now w
   of-wire Free e = record { names = refl; sizes = refl; left = refl; taken = refl; young = refl }
   of-wire (Sending f left) e = go (namesRow t f) refl
     where
@@ -211,11 +211,11 @@ module _ (t : Contents) (now : ℕ) where
       go true n = of-row f left n e
       go false n = of-mark f left n e
 
-  wire-passes : (w : Wire) → OfWire t now w → onSending (sendingTest t (bounds t) now) w ≡ true
+  wire-passes : (w : Wire) → OfWire t now w → onSending (sendingTest t (residences t) now) w ≡ true
   wire-passes Free p = refl
   wire-passes (Sending f left) p = go (namesRow t f) refl
     where
-      go : (b : Bool) → namesRow t f ≡ b → sendingTest t (bounds t) now f left ≡ true
+      go : (b : Bool) → namesRow t f ≡ b → sendingTest t (residences t) now f left ≡ true
       go true n = row-passes f left n p
       go false n = mark-passes f left n p
 
@@ -224,8 +224,8 @@ pub record Passes (s : State) : Type 0 where
   pub table : tableSound s ≡ true
   pub numbers : numbersTest s ≡ true
   pub best : bestSound s ≡ true
-  pub frames : framesTest (bounds (s .table)) s ≡ true
-  pub rows : rowsTest (bounds (s .table)) s ≡ true
+  pub frames : framesTest (residences (s .table)) s ≡ true
+  pub rows : rowsTest (residences (s .table)) s ≡ true
 
 module _ (s : State) where
   abbrev ofQueue : Class → List Frame → Type 0
@@ -238,15 +238,15 @@ module _ (s : State) where
     best : OfBest (bestSize (s .table)) (s .clock) (s .best)
     wire : OfWire (s .table) (s .clock) (s .wire)
 
-  of-frames : framesTest (bounds (s .table)) s ≡ true → OfFrames
+  of-frames : framesTest (residences (s .table)) s ≡ true → OfFrames
   unfolding framesTest
   of-frames e =
-      let p = table.and-true (allOf (frameTest A (s .table) (bounds (s .table)) (s .clock)) (s .a) && allOf (frameTest B (s .table) (bounds (s .table)) (s .clock)) (s .b)) _ e in
-      let q = table.and-true (allOf (frameTest A (s .table) (bounds (s .table)) (s .clock)) (s .a)) (allOf (frameTest B (s .table) (bounds (s .table)) (s .clock)) (s .b)) (p .0) in
-      let r = table.and-true (allOf (bestTest (bestSize (s .table)) (s .clock)) (s .best)) (onSending (sendingTest (s .table) (bounds (s .table)) (s .clock)) (s .wire)) (p .1) in
+      let p = table.and-true (allOf (frameTest A (s .table) (residences (s .table)) (s .clock)) (s .a) && allOf (frameTest B (s .table) (residences (s .table)) (s .clock)) (s .b)) _ e in
+      let q = table.and-true (allOf (frameTest A (s .table) (residences (s .table)) (s .clock)) (s .a)) (allOf (frameTest B (s .table) (residences (s .table)) (s .clock)) (s .b)) (p .0) in
+      let r = table.and-true (allOf (bestTest (bestSize (s .table)) (s .clock)) (s .best)) (onSending (sendingTest (s .table) (residences (s .table)) (s .clock)) (s .wire)) (p .1) in
       record { a = of-queue A _ _ _ (q .0); b = of-queue B _ _ _ (q .1); best = of-best _ _ _ (r .0); wire = of-wire _ _ (s .wire) (r .1) }
 
-  frames-pass : OfFrames → framesTest (bounds (s .table)) s ≡ true
+  frames-pass : OfFrames → framesTest (residences (s .table)) s ≡ true
   unfolding framesTest
   frames-pass p =
       rw (queue-passes A (s .table) (s .clock) (s .a) (p .a), queue-passes B (s .table) (s .clock) (s .b) (p .b), best-passes (bestSize (s .table)) (s .clock) (s .best) (p .best), wire-passes (s .table) (s .clock) (s .wire) (p .wire))
@@ -311,24 +311,24 @@ module _ (s : State) where
   latest k = endsAt (takenOf k s) (getD (s .last) k never)
 
   module _ (ok : IsAccepted (s .table)) where
-    row-tests : (k : ℕ) → k < length (s .table .rows) → heldTest (s .table) (bounds (s .table)) (s .last) (sending (s .wire) ++ (s .a ++ s .b)) k ≡ (few k && (spread k && latest k))
+    row-tests : (k : ℕ) → k < length (s .table .rows) → heldTest (s .table) (residences (s .table)) (s .last) (sending (s .wire) ++ (s .a ++ s .b)) k ≡ (few k && (spread k && latest k))
     unfolding heldTest instantsTest takenOf
     row-tests k h =
         let in-use : InUse (s .table) k = record { below = h } in
-        let limit : getD (bounds (s .table)) k 0 ≡ residence (s .table) (rowAt (s .table) k) = omega (arith, law.bounds-row (s .table) k in-use, law.bound-report (s .table) (rowAt (s .table) k)) in
+        let limit : getD (residences (s .table)) k 0 ≡ residence (s .table) (rowAt (s .table) k) = law.residences-row (s .table) k in-use in
         rw (limit, count-same (length (takenOf k s)) k in-use) refl
       where
         count-same : (n k : ℕ) → InUse (s .table) k → inLimit n (periodOf (rowAt (s .table) k)) (residence (s .table) (rowAt (s .table) k)) ≡ leb n (mostOf (s .table) (rowAt (s .table) k))
         count-same zero k u = sym (le-leb 0 (mostOf (s .table) (rowAt (s .table) k)) (omega arith))
         count-same (suc n) k u = law.most-periods (s .table) ok k u n
 
-    rows-tests : rowsTest (bounds (s .table)) s ≡ (rowsTaken s && (heldSound s && (apartSound s && latestSound s)))
+    rows-tests : rowsTest (residences (s .table)) s ≡ (rowsTaken s && (heldSound s && (apartSound s && latestSound s)))
     unfolding rowsTest heldSound apartSound latestSound
     rows-tests =
-        rw (up-to-same (length (s .table .rows)) (heldTest (s .table) (bounds (s .table)) (s .last) (sending (s .wire) ++ (s .a ++ s .b))) (λ k. few k && (spread k && latest k)) row-tests, up-to-both (length (s .table .rows)) few (λ k. spread k && latest k), up-to-both (length (s .table .rows)) spread latest)
+        rw (up-to-same (length (s .table .rows)) (heldTest (s .table) (residences (s .table)) (s .last) (sending (s .wire) ++ (s .a ++ s .b))) (λ k. few k && (spread k && latest k)) row-tests, up-to-both (length (s .table .rows)) few (λ k. spread k && latest k), up-to-both (length (s .table .rows)) spread latest)
         refl
 
-    rows-hold : rowsTest (bounds (s .table)) s ≡ true → (rowsTaken s ≡ true) × (heldSound s ≡ true) × (apartSound s ≡ true) × (latestSound s ≡ true)
+    rows-hold : rowsTest (residences (s .table)) s ≡ true → (rowsTaken s ≡ true) × (heldSound s ≡ true) × (apartSound s ≡ true) × (latestSound s ≡ true)
     rows-hold e =
         let p = table.and-true (rowsTaken s) _ (sym rows-tests ∙ e) in
         let q = table.and-true (heldSound s) _ (p .1) in
@@ -354,5 +354,5 @@ module _ (s : State) where
   broken fails = same-test false (sound s) (λ e. absurd (false≢true e)) (λ e. absurd (fails (passes e)))
 
   -- of a record that passes the others, the test of its rows decides
-  pub by-rows : tableSound s ≡ true → numbersTest s ≡ true → bestSound s ≡ true → framesTest (bounds (s .table)) s ≡ true → rowsTest (bounds (s .table)) s ≡ sound s
-  by-rows t n b f = same-test (rowsTest (bounds (s .table)) s) (sound s) (λ r. passed record { table = t; numbers = n; best = b; frames = f; rows = r }) (λ e. passes e .rows)
+  pub by-rows : tableSound s ≡ true → numbersTest s ≡ true → bestSound s ≡ true → framesTest (residences (s .table)) s ≡ true → rowsTest (residences (s .table)) s ≡ sound s
+  by-rows t n b f = same-test (rowsTest (residences (s .table)) s) (sound s) (λ r. passed record { table = t; numbers = n; best = b; frames = f; rows = r }) (λ e. passes e .rows)

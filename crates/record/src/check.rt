@@ -7,7 +7,7 @@ ghost use Rattle.table.specs.declared.Class.{Class};
 ghost use Rattle.table.specs.Limits.{D, mostRows, mostSlope, mostSize};
 ghost use Rattle.table.specs.Rows.{contents};
 ghost use Rattle.table.specs.Checks.{accepted};
-ghost use Rattle.planner.specs.Bound.{bounds};
+ghost use Rattle.planner.specs.Bound.{residences};
 ghost use Rattle.planner.specs.Opening.{opening};
 ghost use Rattle.planner.specs.Plan.{laneOf};
 ghost use Rattle.machine.specs.Limits.{classPlaces};
@@ -28,7 +28,7 @@ use table::Verdict;
 use table::wire::D;
 use table::wire::wire_size;
 use tally::rows::held_ok;
-use tally::rows::no_frame;
+use tally::rows::no_row_frame;
 
 // A credit is in range, from −low to high.
 fn within(credit: i64, low: u64, high: u64) -> bool
@@ -135,7 +135,7 @@ fn rows_ok(p: Port, limits: [u64; ROWS]) -> bool
         return false;
     }
     let w = p.wire;
-    if no_frame(w, p.a.count, p.b.count) {
+    if no_row_frame(w, p.a.count, p.b.count) {
         return true;
     }
     let t = p.table;
@@ -149,7 +149,7 @@ fn parts_ok(p: Port, a: Lane, b: Lane, limits: [u64; ROWS]) -> bool
     requires { ⌜ opening (contents (p .table)) ≡ accepted ⌝ }
     requires { ⌜ a ≡ laneOf Class.A (contents (p .table)) ⌝ }
     requires { ⌜ b ≡ laneOf Class.B (contents (p .table)) ⌝ }
-    requires { ⌜ limits ≡ bounds (contents (p .table)) ⌝ }
+    requires { ⌜ limits ≡ residences (contents (p .table)) ⌝ }
     ensures { λ r. ⌜ r ≡ sound (view p) ⌝ }
 {
     if !numbers_ok(p, a, b) {
@@ -173,6 +173,6 @@ pub fn is_sound(p: Port) -> bool
     }
     let a = made.a;
     let b = made.b;
-    let limits = made.bounds;
+    let limits = made.residences;
     parts_ok(p, a, b, limits)
 }

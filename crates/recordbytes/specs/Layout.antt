@@ -1,5 +1,5 @@
 -- Where the parts of a port record stand: 704 words, each at its place.
---   0            the layout's version
+--   0            the version
 --   1 to 4       idle slope of A, of B, best-effort payload, row count
 --   5 to 196     32 rows: class (0 A, 1 B), payload, deadline, pace: 0 and the period; or 1, the rate and the samples
 --   197 to 199   clock, credit of A, of B (two's complement)
@@ -7,14 +7,14 @@
 --   393 to 585   queue of B
 --   586 to 634   best-effort queue: count, 16 frames
 --   635 to 698   32 last instants: mark (1 if there is one, else 0), instant
---   699 to 703   wire: 0 when free; 1, the frame and its bytes left
+--   699 to 703   wire: 0 when free; 1, the frame and its bytes left (12 or fewer: it has been reported)
 use Prim.Native.Nat.{ℕ, _+_, _*_}
 use Rattle.table.specs.Limits.{mostRows}
 use Rattle.machine.specs.Limits.{classPlaces, bestPlaces}
 
--- The version, one for each layout: above every idle slope, with which records began before they had one.
+-- The version, one for each layout and for each meaning of its words: above every idle slope, with which records began before they had one.
 abbrev pub version : ℕ
-version = 1000003
+version = 1000004
 
 -- The words of the header, a pace, a row, the clock with the credits, a frame, an instant and the wire. A queue has a count before its frames.
 abbrev pub headWidth : ℕ

@@ -65,6 +65,6 @@ anyPeriod = 31875000000
 abbrev pub classPlaces : ℕ
 classPlaces = 64
 
--- The bytes of a frame that are left when it is reported ended: none, the report comes with its last byte.
+-- The bytes of a frame that are left when it is reported ended: the gap behind its check sequence.
 abbrev pub leftAtReport : ℕ
-leftAtReport = 0
+leftAtReport = 12

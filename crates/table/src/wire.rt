@@ -14,6 +14,9 @@ pub const D: u64 = 1_000_000;
 // The smallest wire size.
 pub const LEAST_SIZE: u32 = 84;
 
+// The bytes of a frame that are left when it is reported ended.
+pub const LEFT_AT_REPORT: u32 = 12;
+
 // The byte-times of a second.
 const SECOND: u64 = 125_000_000;
 

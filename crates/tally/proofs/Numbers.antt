@@ -7,7 +7,7 @@ use native.Mathlib.Numerals.{add-one}
 use native.Mathlib.Omega.{arith}
 use lib.Dec.{eqb}
 use lib.ListN.{length, getD}
-use borrow.Author.Tests.{eqb-true}
+use borrow.Author.Tests.{eqb-true, ne-eqb, leb-true}
 use Rattle.table.specs.declared.Table.{Table}
 use Rattle.table.specs.Limits.{mostRows}
 use Rattle.table.specs.Wire.{periodOf}
@@ -22,7 +22,7 @@ use Rattle.machine.specs.State.{instantOf, instantsOf}
 use Rattle.machine.specs.Record.{takenIn, upTo}
 use Rattle.machine.proofs.FromSound.{up-to-true}
 use Rattle.machine.proofs.Places.{zeroLast, instant-at}
-use Rattle.tally.specs.Rows.{inRecord, instantsTest, heldTest, isFree, noFrames}
+use Rattle.tally.specs.Rows.{inRecord, instantsTest, heldTest, noRowOn, noRowFrames}
 
 -- ---- a test of the first n numbers
 module _ (n : ℕ) (ok : ℕ → Bool) where
@@ -41,25 +41,26 @@ pub row-told : (t : Table) → length (t .rows) ≡ 32 → t .count ≤ mostRows
 unfolding heldTest
 row-told t long few limits last wide fs k h q = rw (instant-at last (t .count) k h (rw wide (omega arith)), table.row-at t long few k h) q
 
--- ---- a record without a frame
-every : (n : ℕ) (ok : ℕ → Bool) → ((k : ℕ) → ok k ≡ true) → upTo n ok ≡ true
+-- ---- a record without a row's frame
+every : (n : ℕ) (ok : ℕ → Bool) → ((k : ℕ) → k < n → ok k ≡ true) → upTo n ok ≡ true
 every zero ok e = refl
-every (suc n) ok e = rw (every n ok e, e n) refl
+every (suc n) ok e = rw (every n ok (λ k h. e k (omega (arith, h))), e n (omega arith)) refl
 
-no-frames : (w : Wire) (a b : Queue) → noFrames w (a .count) (b .count) ≡ true → inRecord w a b ≡ []
-unfolding noFrames
-no-frames w a b e =
-    let p = table.and-true (eqb (a .count) 0 && eqb (b .count) 0) (isFree w) e in
+none-taken : (w : Wire) (a b : Queue) → noRowFrames w (a .count) (b .count) ≡ true → (k : ℕ) → k < mostRows → takenIn k (inRecord w a b) ≡ []
+unfolding noRowFrames
+none-taken w a b e k h =
+    let p = table.and-true (eqb (a .count) 0 && eqb (b .count) 0) (noRowOn w) e in
     let q = table.and-true (eqb (a .count) 0) (eqb (b .count) 0) (p .0) in
     go w (p .1) (eqb-true (a .count) 0 (q .0)) (eqb-true (b .count) 0 (q .1))
   where
-    go : (w : Wire) → isFree w ≡ true → a .count ≡ 0 → b .count ≡ 0 → inRecord w a b ≡ []
+    go : (w : Wire) → noRowOn w ≡ true → a .count ≡ 0 → b .count ≡ 0 → takenIn k (inRecord w a b) ≡ []
     go Free f x y = rw (x, y) refl
-    go (Sending g left) f x y = absurd (false≢true f)
+    go (Sending g left) f x y = rw (x, y, ne-eqb (g .source) k (λ z. absurd (omega (arith, h, z, leb-true mostRows (g .source) f)))) refl
 
-none-held : (t : Table) (limits : List ℕ) (last : List Last) (k : ℕ) → heldTest (contents t) limits (instantsOf (t .count) last) [] k ≡ true
+none-held : (t : Table) (limits : List ℕ) (last : List Last) (fs : List Frame) (k : ℕ) → takenIn k fs ≡ [] → heldTest (contents t) limits (instantsOf (t .count) last) fs k ≡ true
 unfolding heldTest instantsTest
-none-held t limits last k = refl
+none-held t limits last fs k e = rw e refl
 
-pub quiet : (w : Wire) (a b : Queue) (t : Table) (limits : List ℕ) (last : List Last) → noFrames w (a .count) (b .count) ≡ true → true ≡ upTo (t .count) (heldTest (contents t) limits (instantsOf (t .count) last) (inRecord w a b))
-quiet w a b t limits last e = rw (no-frames w a b e) (sym (every (t .count) (heldTest (contents t) limits (instantsOf (t .count) last) []) (none-held t limits last)))
+pub quiet : (w : Wire) (a b : Queue) (t : Table) → t .count ≤ mostRows → (limits : List ℕ) (last : List Last) → noRowFrames w (a .count) (b .count) ≡ true → true ≡ upTo (t .count) (heldTest (contents t) limits (instantsOf (t .count) last) (inRecord w a b))
+quiet w a b t few limits last e =
+    sym (every (t .count) (heldTest (contents t) limits (instantsOf (t .count) last) (inRecord w a b)) (λ k h. none-held t limits last (inRecord w a b) k (none-taken w a b e k (omega (arith, h, few)))))

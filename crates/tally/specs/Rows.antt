@@ -1,6 +1,6 @@
 -- What is asked of each row's frames in a record.
 use Prim.Native.Nat.{ℕ, zero, suc, _*_}
-use mathlib.Core.Bool.{Bool, true, false, _&&_}
+use mathlib.Core.Bool.{Bool, true, _&&_}
 use mathlib.Core.List.{List, _++_}
 use lib.Dec.{leb, ltb, eqb}
 use lib.ListN.{length, getD, take}
@@ -36,10 +36,10 @@ heldTest t limits ls fs k = instantsTest (periodOf (rowAt t k)) (getD limits k 0
 unfoldable pub inPlaces : Table → Queue → Queue → Bool
 inPlaces t a b = leb (t .count) mostRows && (leb (a .count) classPlaces && leb (b .count) classPlaces)
 
--- No frame waits in a class queue, by the two counts, or is on the wire.
-abbrev pub isFree : Wire → Bool
-isFree Free = true
-isFree (Sending f left) = false
+-- No row's frame waits in a class queue, by the two counts, or is on the wire: that is free, or what is on it names no row.
+abbrev pub noRowOn : Wire → Bool
+noRowOn Free = true
+noRowOn (Sending f left) = leb mostRows (f .source)
 
-unfoldable pub noFrames : Wire → (a b : ℕ) → Bool
-noFrames w a b = (eqb a 0 && eqb b 0) && isFree w
+unfoldable pub noRowFrames : Wire → (a b : ℕ) → Bool
+noRowFrames w a b = (eqb a 0 && eqb b 0) && noRowOn w

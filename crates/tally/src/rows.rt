@@ -9,7 +9,7 @@ ghost use Rattle.table.specs.Rows.{contents};
 ghost use Rattle.machine.specs.Limits.{classPlaces};
 ghost use Rattle.machine.specs.State.{instantOf, instantsOf};
 ghost use Rattle.machine.specs.Record.{takenIn, upTo};
-ghost use Rattle.tally.specs.Rows.{inRecord, instantsTest, heldTest, inPlaces, noFrames};
+ghost use Rattle.tally.specs.Rows.{inRecord, instantsTest, heldTest, inPlaces, noRowFrames};
 ghost use Rattle.tally.specs.Steps.{unseen, seenFrom, Noted, countTest};
 use crate::Seen;
 use crate::noting::with_queue;
@@ -57,9 +57,9 @@ fn row_ok(k: usize, s: Seen, row: Row, l: Last, limit: u64, w: Wire, a: Queue, b
     spread_ok(k, period(row), w, a, b)
 }
 
-// No frame waits in a class queue or is on the wire: then there is nothing to ask.
-pub fn no_frame(w: Wire, a: usize, b: usize) -> bool
-    ensures { λ r. ⌜ r ≡ noFrames w a b ⌝ }
+// No row's frame waits in a class queue or is on the wire: then there is nothing to ask.
+pub fn no_row_frame(w: Wire, a: usize, b: usize) -> bool
+    ensures { λ r. ⌜ r ≡ noRowFrames w a b ⌝ }
 {
     if 0 < a {
         return false;
@@ -69,7 +69,7 @@ pub fn no_frame(w: Wire, a: usize, b: usize) -> bool
     }
     match w {
         Wire::Free => true,
-        Wire::Sending(_, _) => false,
+        Wire::Sending(f, _) => ROWS <= f.source as usize,
     }
 }
 

@@ -12,7 +12,10 @@ use crate::clock::{compare, Compared};
 use crate::lists::{all_offered, called, called_on, replayed, simulate, up_to_the_most};
 use crate::tables::{of_32_rows, of_long_waits, OF_3_ROWS};
 
-/// Calls that are made again and again.
+/// Calls that are made again and again. A frame is offered in the gap of the one
+/// before it, so its advance passes that gap and the frame's bytes up to its own:
+/// as many byte-times as the frame has bytes. (The first of a list passes 12
+/// fewer.)
 const LONG: &[Call] = &[Call::Advance(65_535)];
 const FULL_FRAME: &[Call] = &[Call::OfferBest(1500), Call::Advance(1542)];
 const SMALL_FRAME: &[Call] = &[Call::OfferBest(42), Call::Advance(84)];

@@ -1,7 +1,8 @@
 //! Tables whose rows may have several frames in the port, up to the most that
 //! there can be.
 
-use simulator::{bounds, Class, Pace, Table};
+use simulator::table::accept;
+use simulator::{Class, Pace, Table};
 
 use crate::tables::row;
 
@@ -41,8 +42,8 @@ pub fn with_two_neighbours() -> Table {
 /// The same with another count of frames, from 1 to 62.
 pub fn with_frames(count: u64) -> Table {
     let mut table = with_two_neighbours();
-    let bound = bounds(&table).expect("an accepted table")[3];
-    table.rows[3].pace = Pace::Period(bound.div_ceil(count));
+    let residence = accept(&table).expect("an accepted table").residences[3];
+    table.rows[3].pace = Pace::Period(residence.div_ceil(count));
     table
 }
 
@@ -55,13 +56,15 @@ pub fn one_too_many() -> Table {
     table
 }
 
-/// 32 rows of A with two frames each: 64 in the class.
+/// 32 rows of A with two frames each: 64 in the class. A frame is in the port
+/// for 5,126 byte-times at most, one more than the period; the bound, 12 less,
+/// is the deadline.
 pub fn two_of_each() -> Table {
     Table {
         idle_a: 750_000,
         idle_b: 0,
         best_payload: 1500,
-        rows: vec![row(Class::A, 42, 5_125, 5_126); 32],
+        rows: vec![row(Class::A, 42, 5_125, 5_114); 32],
     }
 }
 

@@ -8,11 +8,22 @@ use simulator::{Advance, Call, Port, Refusal, Table, Wire};
 /// More calls than any list has.
 const MOST_CALLS: usize = 1_000_000;
 
+#[derive(Clone)]
 pub struct Driver {
     pub port: Port,
     /// The calls, and the simulator's answers.
     pub calls: Vec<Call>,
     pub answers: Vec<Result<Advance, Refusal>>,
+    /// The bytes left on the wire ahead of each call, 0 where it is free.
+    pub lefts: Vec<u64>,
+}
+
+/// The bytes left of the frame on a wire, 0 where it is free.
+pub fn left_on(wire: &Wire) -> u64 {
+    match wire {
+        Wire::Free => 0,
+        Wire::Sending(_, left) => *left,
+    }
 }
 
 impl Driver {
@@ -21,10 +32,12 @@ impl Driver {
             port: Port::fresh(table),
             calls: Vec::new(),
             answers: Vec::new(),
+            lefts: Vec::new(),
         }
     }
 
     pub fn make(&mut self, call: Call) {
+        self.lefts.push(self.left());
         let answer = self.port.make(call);
         assert_ne!(answer, refuse(18, 0), "no list breaks a port");
         for queue in [&self.port.queue_a, &self.port.queue_b] {
@@ -57,15 +70,28 @@ impl Driver {
         }
     }
 
+    /// The bytes left on the wire, 0 where it is free.
+    pub fn left(&self) -> u64 {
+        left_on(&self.port.wire)
+    }
+
     /// Whether a frame of a row waits.
     pub fn waits(&self) -> bool {
         !self.port.queue_a.is_empty() || !self.port.queue_b.is_empty()
     }
 
-    /// Advances until every frame of a row has ended.
+    /// Advances until no frame of a row waits and the wire is free.
     pub fn drain(&mut self) {
-        while self.waits() || self.port.wire != Wire::Free {
+        while self.waits() {
             self.make(Call::Advance(MOST_ADVANCE));
+        }
+        self.until_free();
+    }
+
+    /// Advances until the frame on the wire has sent its last byte.
+    pub fn until_free(&mut self) {
+        while self.left() > 0 {
+            self.make(Call::Advance(self.left()));
         }
     }
 }

@@ -34,8 +34,8 @@ pub struct Hunt {
     pub row: usize,
     pub way: Way,
     /// Whether the rows of its class are offered to again as soon as they may
-    /// be, until the frame has ended; and how many frames of its own row then
-    /// go ahead of it.
+    /// be, until the frame is gone; and how many frames of its own row then go
+    /// ahead of it.
     pub again: Option<usize>,
 }
 
@@ -71,6 +71,7 @@ impl Hunt {
             if let Some(largest) = neighbours.pop() {
                 driver.offer(largest);
                 driver.make(Call::Advance(MOST_ADVANCE));
+                driver.until_free();
             }
         }
         if alone {
@@ -127,9 +128,12 @@ impl Hunt {
                 Class::A => (&port.queue_a, port.credit_a),
                 Class::B => (&port.queue_b, port.credit_b),
             };
-            let wait = match queue.front() == Some(&frame) {
-                true => (-credit - 1) / port.table.idle(class) as i64,
-                false => i64::MAX,
+            let wait = match port.wire {
+                Wire::Sending(_, left) => left as i64,
+                Wire::Free if queue.front() == Some(&frame) => {
+                    (-credit - 1) / port.table.idle(class) as i64
+                }
+                Wire::Free => i64::MAX,
             };
             if wait <= 0 {
                 return;
@@ -147,7 +151,7 @@ impl Hunt {
                 return;
             }
             let wait = match port.wire {
-                Wire::Sending(..) => MOST_ADVANCE,
+                Wire::Sending(_, left) => left,
                 Wire::Free => (-port.credit_b).max(0) as u64 / port.table.idle(Class::B),
             };
             self.pass(driver, wait.clamp(1, MOST_ADVANCE));

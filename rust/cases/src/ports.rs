@@ -3,13 +3,16 @@
 use std::collections::VecDeque;
 
 use simulator::port::{LAST_CLOCK, LEAST_SIZE, MOST_BEST};
-use simulator::table::{accept, Accepted, MOST_ROWS};
+use simulator::table::{accept, Accepted, GAP, MOST_ROWS};
 use simulator::{Call, Class, Frame, Mark, Port, Table, Wire};
 
 use crate::driver::Driver;
 use crate::random::Random;
 use crate::tables;
-use crate::traffic::TRAFFIC;
+use crate::traffic::{gap_count, TRAFFIC};
+
+/// Bytes left in a frame's gap, at its report and ahead of it.
+const ABOUT_THE_REPORT: [u64; 5] = [1, 11, 12, 13, 14];
 
 /// A port that a list of calls has led to.
 pub fn reached(random: &mut Random) -> Port {
@@ -17,6 +20,10 @@ pub fn reached(random: &mut Random) -> Port {
     let count = random.below(100);
     random.pick(&TRAFFIC)(random, &mut driver, count);
     driver.make(Call::Advance(random.between(0, 300)));
+    if random.one_in(2) {
+        let n = gap_count(random, driver.left());
+        driver.make(Call::Advance(n));
+    }
     driver.port
 }
 
@@ -85,7 +92,11 @@ pub fn made_up(random: &mut Random, table: Table) -> Port {
     if random.one_in(2) {
         let frame = any_queue(random, &mut port).pop_front();
         port.wire = frame.map_or(Wire::Free, |frame| {
-            Wire::Sending(frame, random.between(1, frame.size))
+            let left = match random.below(2) {
+                0 => random.between(1, frame.size),
+                _ => random.pick(&ABOUT_THE_REPORT),
+            };
+            Wire::Sending(frame, left)
         });
     }
     port
@@ -103,18 +114,21 @@ enum Fill {
 /// Puts frames of a row into its queue, the newest at the row's last instant.
 fn put_frames(random: &mut Random, port: &mut Port, plan: &Accepted, place: usize, fill: Fill) {
     let row = port.table.rows[place];
-    let (most, bound) = (plan.most[place], plan.bounds[place]);
+    let (most, residence) = (plan.most[place], plan.residences[place]);
     let count = match fill {
         Fill::Full => most,
         Fill::Some => random.between(0, most),
     };
-    // What is left of the bound when the frames are a period apart, in parts
-    // between them and behind the newest.
+    // How much older the oldest is than when the frames are a period apart, in
+    // parts between them and behind the newest: up to the residence, at times
+    // about the bound.
     let least = count.saturating_sub(1) * row.period();
-    let mut slack = match random.below(3) {
+    let most_slack = residence - 1 - least;
+    let mut slack = match random.below(4) {
         0 => 0,
-        1 => bound - 1 - least,
-        _ => random.between(0, bound - 1 - least),
+        1 => most_slack,
+        2 => most_slack.saturating_sub(random.between(GAP - 2, GAP + 1)),
+        _ => random.between(0, most_slack),
     };
     let mut instant = port.clock - least - slack;
     for behind in (0..count).rev() {
@@ -207,8 +221,11 @@ fn change_last(random: &mut Random, port: &mut Port) {
 fn change_wire(random: &mut Random, port: &mut Port) {
     match &mut port.wire {
         Wire::Sending(frame, left) => {
-            let edges = [0, 1, frame.size, frame.size + 1, left.wrapping_sub(1)];
-            *left = random.pick(&edges);
+            let edges = [0, frame.size, frame.size + 1, left.wrapping_sub(1)];
+            *left = match random.below(2) {
+                0 => random.pick(&edges),
+                _ => random.pick(&ABOUT_THE_REPORT),
+            };
         }
         Wire::Free => {
             let frame = any_frame(random, port);
@@ -314,10 +331,11 @@ fn any_mark(random: &mut Random, port: &Port) -> Mark {
 }
 
 /// Instants about the clock, the frame's own, a period from its row's last and
-/// the end of its row's bound.
+/// the end of its row's bound and residence.
 fn any_instant(random: &mut Random, port: &Port, plan: &Accepted, frame: Frame) -> u64 {
+    let figures = random.pick(&[plan.bounds(), plan.residences]);
     let age = match frame.mark {
-        Mark::Row(row) => plan.bounds.get(row).copied().unwrap_or(0),
+        Mark::Row(row) => figures.get(row).copied().unwrap_or(0),
         Mark::BestEffort => port.clock,
     };
     let apart = match frame.mark {

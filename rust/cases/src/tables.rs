@@ -7,7 +7,7 @@ use simulator::table::{
     accept, D, DEADLINE_RANGE, MOST_IDLE_TOGETHER, MOST_IN_CLASS, MOST_ROWS, PAYLOAD_RANGE,
     PERIOD_RANGE, RATE_RANGE, SAMPLES_RANGE, SECOND,
 };
-use simulator::{bounds, open, wire_size, Class, Pace, Row, Table};
+use simulator::{bounds, open, Class, Pace, Row, Table};
 
 use crate::random::Random;
 
@@ -160,7 +160,7 @@ fn proposed_with(random: &mut Random, periods: Periods) -> Table {
 /// How the periods of a table are chosen.
 #[derive(Clone, Copy)]
 enum Periods {
-    /// No shorter than the bound: a row has one frame in the port.
+    /// No shorter than a frame is in the port: a row has one of them there.
     Long,
     /// The same, some of them longer, up to the longest there is.
     Stretched,
@@ -171,16 +171,19 @@ enum Periods {
 }
 
 impl Periods {
-    /// A period of a row with a bound, `least` being the shortest by its part
-    /// of the slope.
-    fn of(self, random: &mut Random, least: u64, bound: u64) -> u64 {
-        let long = least.max(bound);
+    /// A period of a row whose frames are in the port for `residence` at most,
+    /// `least` being the shortest by its part of the slope.
+    fn of(self, random: &mut Random, least: u64, residence: u64) -> u64 {
+        let long = least.max(residence);
+        let count = random.between(1, 8);
         match (self, random.below(16)) {
             (Periods::Stretched, 0) => LONGEST.max(long),
             (Periods::Stretched, 1..=4) => long + random.between(0, long),
             (Periods::Short, 0..=3) => long + random.between(0, long),
             (Periods::Short, 4..=7) => least,
-            (Periods::Short, 8..=11) => least.max(bound.div_ceil(random.between(1, 8))),
+            // The shortest for a count of frames, and the longest for one more.
+            (Periods::Short, 8..=9) => least.max(residence.div_ceil(count)),
+            (Periods::Short, 10..=11) => least.max((residence - 1) / count),
             (Periods::Short, _) => random.between(least, long),
             (Periods::Shortest, _) => least,
             (Periods::Long | Periods::Stretched, _) => long,
@@ -259,9 +262,9 @@ fn fit(random: &mut Random, table: &mut Table, periods: Periods) {
     for (row, weight) in table.rows.iter_mut().zip(weights) {
         let class = row.class as usize;
         let part = (figures[class].idle * weight / totals[class]).max(1);
-        let bound = figures[class].bound(wire_size(row.payload));
+        let bound = figures[class].bound(row.size());
         let least = (D * row.size()).div_ceil(part);
-        let period = periods.of(random, least, bound);
+        let period = periods.of(random, least, figures[class].residence(row.size()));
         row.pace = paced(random, period);
         let late = row.period().max(bound);
         row.deadline = match random.below(8) {
@@ -369,7 +372,7 @@ pub fn change(random: &mut Random, table: &mut Table) {
         9 => *idle(table, class) = random.pick(&[1, 750_000, 750_001, u64::from(u32::MAX)]),
         10 => table.best_payload = random.pick(&[0, 1500, 1501, 65_535]),
         11 => table.rows[place].pace = rated_edge(random),
-        12 => crowd(table, place, off),
+        12 => crowd(random, table, place, off),
         _ => {
             let row = table.rows[place];
             table.rows.resize(random.pick(&[0, 1, 32, 33, 255]), row);
@@ -394,8 +397,8 @@ pub fn late(table: &mut Table, place: usize, off: u64) {
 }
 
 /// Makes a row's period so short that the counts of its class sum to 64, or
-/// more by `off`.
-pub fn crowd(table: &mut Table, place: usize, off: u64) {
+/// more by `off`: the shortest such period, or the longest.
+pub fn crowd(random: &mut Random, table: &mut Table, place: usize, off: u64) {
     let Ok(plan) = accept(table) else {
         return;
     };
@@ -403,7 +406,11 @@ pub fn crowd(table: &mut Table, place: usize, off: u64) {
     let rows = table.rows.iter().zip(plan.most).enumerate();
     let others = rows.filter(|(other, (row, _))| *other != place && row.class == class);
     let others: u64 = others.map(|(_, (_, most))| most).sum();
-    let period = plan.bounds[place].div_ceil(MOST_IN_CLASS + off - others);
+    let (residence, count) = (plan.residences[place], MOST_IN_CLASS + off - others);
+    let period = match random.below(2) {
+        0 if count > 1 => (residence - 1) / (count - 1),
+        _ => residence.div_ceil(count),
+    };
     table.rows[place].pace = Pace::Period(period);
 }
 

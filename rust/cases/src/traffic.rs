@@ -1,17 +1,19 @@
 //! Lists of calls: any at all, and dense ones.
 
-use simulator::port::{MOST_ADVANCE, MOST_BEST};
+use simulator::port::{LEAST_SIZE, MOST_ADVANCE, MOST_BEST};
+use simulator::table::GAP;
 use simulator::{Call, Table};
 
 use crate::driver::Driver;
 use crate::random::Random;
 
-/// Any call, values out of range among them.
-pub fn any_call(random: &mut Random, table: &Table) -> Call {
+/// Any call, values out of range among them, where the wire has so many bytes
+/// left.
+pub fn any_call(random: &mut Random, table: &Table, left: u64) -> Call {
     match random.below(8) {
         0..=2 => any_offer(random, table),
         3 => Call::OfferBest(any_payload(random, table.best_payload)),
-        _ => Call::Advance(any_count(random)),
+        _ => Call::Advance(any_count(random, left)),
     }
 }
 
@@ -35,12 +37,29 @@ fn any_payload(random: &mut Random, most: u64) -> u64 {
     }
 }
 
-fn any_count(random: &mut Random) -> u64 {
+fn any_count(random: &mut Random, left: u64) -> u64 {
     match random.below(16) {
         0 => random.pick(&[0, 1, MOST_ADVANCE, MOST_ADVANCE + 1, 1 << 32, u64::MAX]),
         1 => random.between(0, MOST_ADVANCE),
+        2..=5 => gap_count(random, left),
         _ => random.between(0, 3000),
     }
+}
+
+/// Counts about the report of the frame on the wire and about its end; where it
+/// is reported, also those that stop in its gap, and on a free wire those of a
+/// smallest frame that is about to begin.
+pub fn gap_count(random: &mut Random, left: u64) -> u64 {
+    let left = match left {
+        0 => LEAST_SIZE,
+        _ => left,
+    };
+    if random.one_in(2) && left <= GAP {
+        return random.between(0, left);
+    }
+    let about = random.pick(&[left, left.saturating_sub(GAP)]);
+    let more = about.saturating_add(random.between(0, 2));
+    more.saturating_sub(1)
 }
 
 /// Ways to make up a list of about a count of calls.
@@ -49,7 +68,7 @@ pub const TRAFFIC: [fn(&mut Random, &mut Driver, usize); 2] = [random_calls, den
 /// Makes a count of calls, any at all.
 pub fn random_calls(random: &mut Random, driver: &mut Driver, count: usize) {
     for _ in 0..count {
-        let call = any_call(random, &driver.port.table);
+        let call = any_call(random, &driver.port.table, driver.left());
         driver.make(call);
     }
 }
@@ -69,14 +88,15 @@ pub fn dense_calls(random: &mut Random, driver: &mut Driver, count: usize) {
             driver.offer_best();
         }
         if random.one_in(10) {
-            let call = any_call(random, &driver.port.table);
+            let call = any_call(random, &driver.port.table, driver.left());
             driver.make(call);
         }
         if !(dense.patient && driver.waits()) {
             dense.offer_all(random, driver);
         }
         let n = match random.below(10) {
-            0 => any_count(random),
+            0 => any_count(random, driver.left()),
+            1 => gap_count(random, driver.left()),
             _ => dense.wait(driver).clamp(1, MOST_ADVANCE),
         };
         driver.make(Call::Advance(n));

@@ -5,7 +5,7 @@ use std::collections::VecDeque;
 
 use simulator::port::{LAST_CLOCK, MOST_ADVANCE, MOST_BEST};
 use simulator::refusal::refuse;
-use simulator::table::MOST_IN_CLASS;
+use simulator::table::{GAP, MOST_IN_CLASS};
 use simulator::{wire_size, Advance, Call, Frame, Mark, Refusal, Table, TAKEN};
 
 type Answer = Result<Advance, Refusal>;
@@ -24,10 +24,12 @@ pub struct Watch<'a> {
     waiting: Vec<VecDeque<Frame>>,
     /// The same of best effort.
     waiting_best: VecDeque<Frame>,
+    /// The frame reported last, and the clock at which its gap is over.
+    sent: Option<(Frame, u64)>,
     /// The rows' frames that were reported.
     pub reported: Vec<Reported>,
-    /// The most frames that each row, and the rows of A and of B, had taken and
-    /// not reported at once.
+    /// The most frames that each row, and the rows of A and of B, had in the
+    /// port at once.
     pub most: Vec<usize>,
     pub most_in_class: [usize; 2],
 }
@@ -38,8 +40,7 @@ pub struct Reported {
     pub row: usize,
     /// The byte-times from its offer to its report.
     pub age: u64,
-    /// How many frames of its row were taken and not reported, this one among
-    /// them.
+    /// How many frames of its row were in the port, this one among them.
     pub together: usize,
 }
 
@@ -64,6 +65,7 @@ impl Watch<'_> {
             last: vec![None; table.rows.len()],
             waiting: vec![VecDeque::new(); table.rows.len()],
             waiting_best: VecDeque::new(),
+            sent: None,
             reported: Vec::new(),
             most: vec![0; table.rows.len()],
             most_in_class: [0; 2],
@@ -120,33 +122,48 @@ impl Watch<'_> {
         Ok(())
     }
 
-    /// A row's frames in the port are at most its bound divided by its period,
-    /// rounded up, and those of a class at most 64.
+    /// The frame that is reported and whose gap is not over.
+    fn in_gap(&self) -> Option<Frame> {
+        let (frame, over) = self.sent?;
+        (self.clock < over).then_some(frame)
+    }
+
+    /// How many frames of a row are in the port: those that are not reported,
+    /// and one in its gap.
+    fn in_port(&self, row: usize) -> usize {
+        let in_gap = self.in_gap().map(|frame| frame.mark);
+        self.waiting[row].len() + usize::from(in_gap == Some(Mark::Row(row)))
+    }
+
+    /// A row's frames in the port are at most as many as the old figure, 12
+    /// more than its bound, divided by its period, rounded up, and those of a
+    /// class at most 64.
     fn see_room(&mut self, row: usize) -> Seen {
-        let count = self.waiting[row].len();
-        let most = self.bounds[row].div_ceil(self.table.rows[row].period());
+        let count = self.in_port(row);
+        let residence = self.bounds[row] + GAP;
+        let most = residence.div_ceil(self.table.rows[row].period());
         hold(count as u64 <= most, || {
-            format!("{count} frames of row {row} have not ended")
+            format!("{count} frames of row {row} are in the port")
         })?;
         self.most[row] = self.most[row].max(count);
         let class = self.table.rows[row].class;
-        let rows = self.table.rows.iter().zip(&self.waiting);
-        let of_class = rows.filter(|(row, _)| row.class == class);
-        let count: usize = of_class.map(|(_, frames)| frames.len()).sum();
+        let rows = 0..self.table.rows.len();
+        let of_class = rows.filter(|&row| self.table.rows[row].class == class);
+        let count: usize = of_class.map(|row| self.in_port(row)).sum();
         hold(count as u64 <= MOST_IN_CLASS, || {
-            format!("{count} frames of {class:?} have not ended")
+            format!("{count} frames of {class:?} are in the port")
         })?;
         let most = &mut self.most_in_class[class as usize];
         *most = count.max(*most);
         Ok(())
     }
 
-    /// Of the frames that are taken and not reported one may be on the wire: 16
-    /// of them are 15 or 16 that wait.
+    /// Of the frames that are taken and not reported one may be on the wire, but
+    /// not while another is in its gap: 16 of them are 15 or 16 that wait.
     fn see_offer_best(&mut self, payload: u64, answer: Answer) -> Seen {
         match self.waiting_best.len() {
             _ if payload > self.table.best_payload => same(answer, refuse(12, 0))?,
-            MOST_BEST if answer == Ok(TAKEN) => (),
+            MOST_BEST if answer == Ok(TAKEN) && self.in_gap().is_none() => (),
             more if more >= MOST_BEST => same(answer, refuse(14, 0))?,
             _ => same(answer, Ok(TAKEN))?,
         }
@@ -178,7 +195,8 @@ impl Watch<'_> {
     }
 
     /// A reported frame is the first taken of its row or of best effort, by its
-    /// mark, wire size and instant, and is not older than its bound.
+    /// mark, wire size and instant, and is not older than its bound. All its
+    /// bytes but the gap have passed, and none of them in another's gap.
     fn see_end(&mut self, frame: Frame) -> Seen {
         let taken = match frame.mark {
             Mark::Row(row) => self.waiting.get_mut(row).and_then(VecDeque::pop_front),
@@ -187,15 +205,21 @@ impl Watch<'_> {
         hold(taken == Some(frame), || {
             format!("{frame:?} reported, {taken:?} taken")
         })?;
+        let free = self.sent.map_or(0, |(_, over)| over);
+        let sent = self.clock.saturating_sub(free.max(frame.instant));
+        hold(sent >= frame.size - GAP, || {
+            format!("{frame:?} reported after {sent} of its bytes")
+        })?;
+        self.sent = Some((frame, self.clock + GAP));
         if let Mark::Row(row) = frame.mark {
             let (age, bound) = (self.clock - frame.instant, self.bounds[row]);
             hold(age <= bound, || {
-                format!("row {row}'s frame ends at {age}, its bound is {bound}")
+                format!("row {row}'s frame is reported at {age}, its bound is {bound}")
             })?;
             self.reported.push(Reported {
                 row,
                 age,
-                together: self.waiting[row].len() + 1,
+                together: self.in_port(row),
             });
         }
         Ok(())
@@ -208,6 +232,6 @@ impl Watch<'_> {
             first.filter(|frame| self.clock - frame.instant >= *bound)
         };
         let late = self.waiting.iter().zip(self.bounds).find_map(late);
-        hold(late.is_none(), || format!("{late:?} has not ended"))
+        hold(late.is_none(), || format!("{late:?} is not reported"))
     }
 }

@@ -54,7 +54,7 @@ const RUN: [Call; 9] = [
     Call::Advance(65_535),
 ];
 
-/// The place of the advance in which row 0's frame ends.
+/// The place of the advance in which row 0's frame is reported.
 const END_OF_ROW_0: usize = 6;
 
 /// The run with another answer at a place is wrong there.
@@ -84,24 +84,92 @@ fn a_reported_frame_is_the_one_taken() {
     wrong(END_OF_ROW_0, ended(100, Mark::Row(1), 100, 1));
     wrong(END_OF_ROW_0, ended(100, Mark::Row(3), 100, 1));
     wrong(END_OF_ROW_0, ended(100, Mark::BestEffort, 1542, 0));
-    // Reported once.
+    // Reported once: not again when the wire frees, nor later.
+    wrong(END_OF_ROW_0 + 1, ended(12, Mark::Row(0), 100, 1));
     wrong(END_OF_ROW_0 + 1, ended(300, Mark::Row(0), 100, 1));
-    wrong(END_OF_ROW_0 - 1, ended(1541, Mark::BestEffort, 1541, 0));
+    wrong(END_OF_ROW_0 - 1, ended(1529, Mark::BestEffort, 1541, 0));
+}
+
+fn nothing(passed: u64) -> Result<Advance, Refusal> {
+    Ok(Advance {
+        passed,
+        ended: None,
+    })
 }
 
 #[test]
 fn a_frame_is_reported_no_later_than_its_bound() {
-    wrong(END_OF_ROW_0, ended(3742, Mark::Row(0), 100, 1));
-    let nothing = |passed| {
-        Ok(Advance {
-            passed,
-            ended: None,
-        })
-    };
+    // Row 1's frame is late too.
+    wrong(END_OF_ROW_0, ended(3730, Mark::Row(0), 100, 1));
     wrong(END_OF_ROW_0, nothing(65_535));
-    // Time passes to the end, or to a frame's.
+    // Time passes to the count, or to a report.
     wrong(END_OF_ROW_0, nothing(100));
     wrong(1, nothing(0));
+}
+
+/// Row 0's frame is taken at 0, time passes, and a report is answered or none.
+fn alone(n: u64, answer: Result<Advance, Refusal>) -> Seen {
+    let table = table();
+    let bounds = bounds(&table).unwrap();
+    let steps = [(Call::Offer(0, 58), Ok(TAKEN)), (Call::Advance(n), answer)];
+    Watch::new(&table, &bounds).see_all(steps.into_iter())
+}
+
+/// The watch knows the bound, 3,730, and how long the bytes take at least; when
+/// between them is the machine's to say.
+#[test]
+fn a_frame_is_reported_from_its_last_byte_before_the_gap_to_its_bound() {
+    let reported = |passed| alone(65_535, ended(passed, Mark::Row(0), 100, 0));
+    assert!(reported(87).is_err());
+    assert_eq!(reported(88), Ok(()));
+    assert_eq!(reported(3730), Ok(()));
+    assert!(reported(3731).is_err());
+    assert!(reported(3742).is_err());
+    assert_eq!(alone(3729, nothing(3729)), Ok(()));
+    assert!(alone(3730, nothing(3730)).is_err());
+    assert!(alone(3742, nothing(3742)).is_err());
+}
+
+/// Another frame's bytes pass when the gap is over.
+#[test]
+fn no_byte_passes_in_a_gap() {
+    let seen = |passed| {
+        let mut driver = Driver::new(table());
+        driver.offer(0);
+        driver.make(Call::OfferBest(0));
+        driver.make(Call::Advance(65_535));
+        driver.make(Call::Advance(65_535));
+        let last = driver.answers.last_mut().unwrap();
+        assert_eq!(*last, ended(84, Mark::BestEffort, 84, 0));
+        *last = ended(passed, Mark::BestEffort, 84, 0);
+        watched(&driver)
+    };
+    assert!(seen(72).is_err());
+    assert!(seen(83).is_err());
+    assert_eq!(seen(84), Ok(()));
+}
+
+/// In a frame's gap all best-effort frames that are not reported wait.
+#[test]
+fn sixteen_wait_in_a_gap() {
+    let mut driver = Driver::new(table());
+    driver.offer_best();
+    driver.make(Call::Advance(65_535));
+    for _ in 0..17 {
+        driver.offer_best();
+    }
+    assert_eq!(driver.answers.last(), Some(&refuse(14, 0)));
+    assert_eq!(watched(&driver), Ok(()));
+    let said = driver.answers.pop().unwrap();
+    driver.answers.push(Ok(TAKEN));
+    assert!(watched(&driver).is_err());
+    driver.answers.pop();
+    driver.answers.push(said);
+    // One of them is on the wire when the gap is over.
+    driver.make(Call::Advance(13));
+    driver.offer_best();
+    assert_eq!(driver.answers.last(), Some(&Ok(TAKEN)));
+    assert_eq!(watched(&driver), Ok(()));
 }
 
 #[test]

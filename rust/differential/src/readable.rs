@@ -2,12 +2,29 @@
 
 use std::collections::VecDeque;
 
-use ithumeco::{FrameWords, QueueWords, Record, RowWords, WireWords, VERSION};
+use ithumeco::{
+    words, FrameWords, QueueWords, Record, RowWords, WireWords, RECORD_SIZE, VERSION, WORD_SIZE,
+};
 use simulator::{Class, Frame, Mark, Pace, Port, Row, Table, Wire};
 
 const U8: u64 = u8::MAX as u64;
 const U16: u64 = u16::MAX as u64;
 const U32: u64 = u32::MAX as u64;
+
+/// A record's last words: the wire's mark, the frame's three and its bytes left.
+const WIRE_WORDS: usize = 5;
+
+/// The bytes left on a record's wire, 0 where it is free or there is no record.
+pub fn left_of(record: &[u8]) -> u64 {
+    let Some(record) = record.first_chunk::<RECORD_SIZE>() else {
+        return 0;
+    };
+    let mut wire = words(&record[RECORD_SIZE - WIRE_WORDS * WORD_SIZE..]);
+    match (wire.next(), wire.last()) {
+        (Some(1), Some(left)) => left,
+        _ => 0,
+    }
+}
 
 /// Whether every word in use fits its field. A clock, a credit and an instant
 /// take any word.

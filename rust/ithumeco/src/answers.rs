@@ -16,11 +16,11 @@ pub struct Answer {
     pub number: u64,
     /// The byte-times passed.
     pub passed: u64,
-    /// The ended frame's row; 32 for best effort, 33 where no frame ended.
+    /// The row of the frame reported ended; 32 for best effort, 33 for none.
     pub source: u64,
-    /// The ended frame's wire size.
+    /// That frame's wire size.
     pub size: u64,
-    /// The instant at which the ended frame was taken.
+    /// The instant at which it was taken.
     pub taken: u64,
 }
 
@@ -36,7 +36,7 @@ impl Answer {
         }
     }
 
-    /// The answer to an advance in which no frame ended.
+    /// The answer to an advance in which no frame was reported.
     pub const fn passed(n: u64) -> Answer {
         Answer {
             number: 0,

@@ -6,8 +6,8 @@ use simulator::{Class, Frame, Pace, Port, Row, Wire};
 
 use crate::words::{put_words, words, WORD_SIZE};
 
-/// The version of the layout, a record's first word.
-pub const VERSION: u64 = 1_000_003;
+/// The version of the layout and of what its words say, a record's first word.
+pub const VERSION: u64 = 1_000_004;
 
 /// The size of a record in words.
 pub const RECORD_WORDS: usize = 704;

@@ -1,5 +1,5 @@
 //! Document 01's facts (d), (e) and (g) on the specimen port, through the
-//! static library. The numbers are the document's.
+//! static library. The numbers are the documents', with C-13's for (d) and (e).
 
 use cases::specimen::FILE;
 use ithumeco::{
@@ -7,7 +7,7 @@ use ithumeco::{
 };
 use simulator::Call;
 
-/// The answer to an advance in which a frame ended.
+/// The answer to an advance in which a frame was reported ended.
 fn ended(passed: u64, source: u64, size: u64, taken: u64) -> Answer {
     Answer {
         number: 0,
@@ -42,8 +42,9 @@ fn fact_d() {
         (Call::OfferBest(1500), Answer::TAKEN),
         (Call::Advance(1), Answer::passed(1)),
         (Call::Offer(0, 58), Answer::TAKEN),
-        (Call::Advance(5000), ended(1541, 32, 1542, 0)),
+        (Call::Advance(5000), ended(1529, 32, 1542, 0)),
         (Call::Advance(5000), ended(100, 0, 100, 1)),
+        (Call::Advance(12), Answer::passed(12)),
     ]);
     assert_eq!(credit, 0);
 }
@@ -52,22 +53,23 @@ fn fact_d() {
 fn fact_e() {
     let first = [
         (Call::Offer(0, 58), Answer::TAKEN),
-        (Call::Advance(5000), ended(100, 0, 100, 0)),
+        (Call::Advance(5000), ended(88, 0, 100, 0)),
+        (Call::Advance(12), Answer::passed(12)),
     ];
     assert_eq!(credit_a_after(&first), -75_000_000);
     let then = [
         (Call::Offer(1, 258), Answer::TAKEN),
-        (Call::Advance(1000), ended(600, 1, 300, 100)),
+        (Call::Advance(1000), ended(588, 1, 300, 100)),
     ];
-    credit_a_after(&[first, then].concat());
+    credit_a_after(&[&first[..], &then].concat());
 }
 
 #[test]
 fn fact_g() {
     credit_a_after(&[
         (Call::Offer(0, 58), Answer::TAKEN),
-        (Call::Advance(15_624), ended(100, 0, 100, 0)),
-        (Call::Advance(15_524), Answer::passed(15_524)),
+        (Call::Advance(15_624), ended(88, 0, 100, 0)),
+        (Call::Advance(15_536), Answer::passed(15_536)),
         (Call::Offer(0, 58), Answer::refused(13)),
         (Call::Advance(1), Answer::passed(1)),
         (Call::Offer(0, 58), Answer::TAKEN),

@@ -3,7 +3,7 @@
 use std::collections::VecDeque;
 
 use crate::refusal::{refuse, Refusal};
-use crate::table::{accept, wire_size, Class, Table, MOST_IN_CLASS, MOST_ROWS};
+use crate::table::{accept, wire_size, Class, Table, GAP, MOST_IN_CLASS, MOST_ROWS};
 
 /// "a clock (0 to 1,099,511,627,775)"
 pub const LAST_CLOCK: u64 = 1_099_511_627_775;
@@ -175,7 +175,7 @@ pub const CLAUSES: [&str; 15] = [
     "a row has too many frames",
     "two frames of a row were taken less than a period apart",
     "a row's newest frame wasn't taken at the row's last instant",
-    "a row's frame is as old as its bound",
+    "a row's frame is as old as its residence",
 ];
 
 /// "A record is broken if ...": the name of the first clause that holds, none
@@ -259,7 +259,8 @@ pub fn broken(port: &Port) -> Option<&'static str> {
     let rows = || taken.chunk_by(|one, next| one.0 == next.0);
 
     // "a row has two frames in the port", by C-12 "more than that many": "as
-    // its bound divided by its period, rounded up"
+    // its bound divided by its period, rounded up". C-13: "The frame count of
+    // C-12 and the age in a broken record use the old figure."
     if rows().any(|frames| frames.len() as u64 > accepted.most[frames[0].0]) {
         return Some(CLAUSES[11]);
     }
@@ -282,10 +283,10 @@ pub fn broken(port: &Port) -> Option<&'static str> {
         return Some(CLAUSES[13]);
     }
 
-    // "a row's frame is as old as its bound or older"
+    // "a row's frame is as old as its bound or older", by C-13 the old figure
     if taken
         .iter()
-        .any(|&(row, instant)| port.clock - instant >= accepted.bounds[row])
+        .any(|&(row, instant)| port.clock - instant >= accepted.residences[row])
     {
         return Some(CLAUSES[14]);
     }
@@ -357,6 +358,8 @@ impl Port {
 
     /// "Advance by n (0 to 65,535) runs byte-times until a frame ends or n
     /// have passed, and gives the count passed and the ended frame or none."
+    /// C-13: "A frame is now reported ended when 12 bytes of it are left",
+    /// "Advance stops there."
     pub fn advance(&mut self, n: u64) -> Result<Advance, Refusal> {
         // "18."
         if broken(self).is_some() {
@@ -382,7 +385,8 @@ impl Port {
 
 /// The byte-time machine.
 impl Port {
-    /// One byte-time of a sound record. Gives the frame that ended, if any.
+    /// One byte-time of a sound record. Gives the frame that is reported ended,
+    /// if any.
     #[inline]
     pub fn byte_time(&mut self) -> Option<Frame> {
         // 1. "On a free wire, the head of A goes out if A's credit is at least
@@ -395,7 +399,7 @@ impl Port {
         }
 
         // 2. The credits change.
-        let sending = self.class_on_wire();
+        let mut sending = self.class_on_wire();
         self.credit_a = changed_credit(
             self.credit_a,
             self.table.idle(Class::A) as i64,
@@ -412,20 +416,23 @@ impl Port {
         );
 
         // 3. "One byte passes, the clock gains 1; after the last byte the wire
-        // is free and the frame has ended."
+        // is free". C-13: "A frame is now reported ended when 12 bytes of it are
+        // left; those twelve still occupy the wire and cost credit." "A frame is
+        // reported no second time when the wire frees."
         let mut ended = None;
         if let Wire::Sending(frame, left) = &mut self.wire {
             *left -= 1;
-            if *left == 0 {
+            if *left == GAP {
                 ended = Some(*frame);
+            } else if *left == 0 {
                 self.wire = Wire::Free;
+                sending = None;
             }
         }
         self.clock += 1;
 
         // 4. "A class with no frame waiting or on the wire and credit above 0
         // goes to 0."
-        let sending = if ended.is_some() { None } else { sending };
         if self.queue_a.is_empty() && sending != Some(Class::A) && self.credit_a > 0 {
             self.credit_a = 0;
         }

@@ -37,6 +37,9 @@ pub const MOST_IDLE_TOGETHER: u64 = 750_000;
 /// C-12: "each class queue has space for 64"
 pub const MOST_IN_CLASS: u64 = 64;
 
+/// C-13: "A frame is now reported ended when 12 bytes of it are left"
+pub const GAP: u64 = 12;
+
 /// The place of a refused header value at opening.
 pub const HEADER_PLACE: usize = 32;
 
@@ -145,17 +148,25 @@ pub struct Figures {
 }
 
 impl Figures {
-    /// "A row's bound is C + H + (D × (sum of C over its class − C) + S × L)
-    /// / I, the quotient rounded down, S, L and I being its class's."
-    pub fn bound(&self, size: u64) -> u64 {
+    /// How long a row's frame is in the port at most: "C + H + (D × (sum of C
+    /// over its class − C) + S × L) / I, the quotient rounded down, S, L and I
+    /// being its class's." It was the row's bound until C-13, which calls it
+    /// "the old figure".
+    pub fn residence(&self, size: u64) -> u64 {
         size + self.blocking + (D * (self.sum - size) + self.send * self.largest) / self.idle
     }
 
+    /// C-13: "A row's bound becomes 12 less"
+    pub fn bound(&self, size: u64) -> u64 {
+        self.residence(size) - GAP
+    }
+
     /// C-12: "A row may have as many frames in the port as its bound divided
-    /// by its period, rounded up". The row is one of the class, its values in
-    /// range.
+    /// by its period, rounded up". C-13: "The frame count of C-12 and the age
+    /// in a broken record use the old figure." The row is one of the class, its
+    /// values in range.
     pub fn most_of(&self, row: &Row) -> u64 {
-        self.bound(row.size()).div_ceil(row.period())
+        self.residence(row.size()).div_ceil(row.period())
     }
 
     /// The range of the class's credit: "−S × L to I × H".
@@ -260,10 +271,20 @@ pub fn check_ranges(table: &Table) -> Result<(), Refusal> {
 pub struct Accepted {
     pub a: Figures,
     pub b: Figures,
-    /// The rows' bounds, 0 in each place behind the last row.
-    pub bounds: [u64; MOST_ROWS],
+    /// How long a frame of each row is in the port at most, 0 in each place
+    /// behind the last row.
+    pub residences: [u64; MOST_ROWS],
     /// How many frames each row may have in the port, in the same way.
     pub most: [u64; MOST_ROWS],
+}
+
+impl Accepted {
+    /// The rows' bounds, in the same way.
+    pub fn bounds(&self) -> [u64; MOST_ROWS] {
+        // C-13: "A row's bound becomes 12 less"
+        self.residences
+            .map(|residence| residence.saturating_sub(GAP))
+    }
 }
 
 /// Opening a table.
@@ -274,7 +295,7 @@ pub fn open(table: &Table) -> Result<(), Refusal> {
 /// "When bounds are asked for, ... the answer holds 32 bounds, 0 in each place
 /// behind the last row." It is refused as opening is.
 pub fn bounds(table: &Table) -> Result<[u64; MOST_ROWS], Refusal> {
-    accept(table).map(|accepted| accepted.bounds)
+    accept(table).map(|accepted| accepted.bounds())
 }
 
 /// The checks of "Opening a table (also asking for bounds)".
@@ -297,8 +318,9 @@ pub fn accept(table: &Table) -> Result<Accepted, Refusal> {
     if b.shares > b.idle {
         return refuse(9, 1);
     }
-    // "10, a bound above its deadline, place the lowest such row."
-    let mut bounds = [0; MOST_ROWS];
+    // "10, a bound above its deadline, place the lowest such row." C-13: "10
+    // compares the new figure".
+    let mut residences = [0; MOST_ROWS];
     let mut most = [0; MOST_ROWS];
     let mut in_class = [0, 0];
     for (place, row) in table.rows.iter().enumerate() {
@@ -306,10 +328,10 @@ pub fn accept(table: &Table) -> Result<Accepted, Refusal> {
             Class::A => (&a, 0),
             Class::B => (&b, 1),
         };
-        bounds[place] = class.bound(row.size());
-        if bounds[place] > row.deadline {
+        if class.bound(row.size()) > row.deadline {
             return refuse(10, place);
         }
+        residences[place] = class.residence(row.size());
         most[place] = class.most_of(row);
         in_class[number] += most[place];
     }
@@ -318,5 +340,10 @@ pub fn accept(table: &Table) -> Result<Accepted, Refusal> {
     if let Some(place) = in_class.iter().position(|&sum| sum > MOST_IN_CLASS) {
         return refuse(20, place);
     }
-    Ok(Accepted { a, b, bounds, most })
+    Ok(Accepted {
+        a,
+        b,
+        residences,
+        most,
+    })
 }

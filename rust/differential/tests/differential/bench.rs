@@ -6,9 +6,11 @@ use cases::random::Random;
 use cases::watch::{Reported, Watch};
 use differential::expected::{self, call_of, Outcome};
 use differential::guarded::Guarded;
+use differential::readable::left_of;
 use ithumeco::{list_bytes, words, Answer, BOUNDS_SIZE, CALL_SIZE};
 use simulator::file_of;
 
+use crate::kinds::{Kinds, Step, Way};
 use crate::tally::Counts;
 
 /// A call of the library that fills a buffer from a table file.
@@ -30,6 +32,7 @@ pub struct Bench {
     random: Random,
     pub cases: u64,
     pub numbers: Counts,
+    pub kinds: Kinds,
 }
 
 impl Bench {
@@ -39,6 +42,7 @@ impl Bench {
             random: Random::new(0),
             cases: 0,
             numbers: [0; 256],
+            kinds: Kinds::default(),
         }
     }
 
@@ -121,6 +125,7 @@ impl Bench {
         let before = self.random.bytes(written + more);
         meant.extend(&before[written..]);
         let answers = self.list(&file, &calls, &before, Ok(()), &meant);
+        self.kinds.see_list(Way::InAList, driver);
 
         let bounds = bounds_of(&file);
         let mut watch = Watch::new(table, &bounds);
@@ -167,6 +172,7 @@ impl Bench {
     /// One call on a record's bytes, which are then those that it leaves. Gives
     /// the answer if the call was made.
     pub fn call(&mut self, record: &mut [u8], call: &[u8], room: usize) -> Option<Answer> {
+        let ahead = left_of(record);
         let mut saved = self.lend(record);
         let given = self.lend(call);
         let mut out = self.buffer(room);
@@ -187,6 +193,13 @@ impl Bench {
         outcome.ok()?;
         let answer = Answer::list(out.get()).next()?;
         self.saw(answer.number as usize);
+        let step = Step {
+            ahead,
+            call: call_of(call)?,
+            said: answer.said(),
+            behind: left_of(record),
+        };
+        self.kinds.see(Way::OnBytes, step);
         Some(answer)
     }
 }

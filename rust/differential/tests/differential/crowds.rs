@@ -9,10 +9,10 @@ use cases::ports::{change, full, full_reversed, made_up};
 use cases::random::Random;
 use cases::traffic::{any_call, dense_calls};
 use cases::{crowds, tables};
-use differential::readable::port_of;
+use differential::readable::{left_of, port_of};
 use ithumeco::{call_bytes, Answer, Record, ANSWER_SIZE};
 use simulator::port::MOST_ADVANCE;
-use simulator::table::{accept, MOST_IN_CLASS};
+use simulator::table::{accept, GAP, MOST_IN_CLASS};
 use simulator::{broken, Call, Class, Frame, Mark, Port, Table, Wire};
 
 use crate::bench::Bench;
@@ -98,7 +98,7 @@ fn records(bench: &mut Bench, random: &mut Random, table: &Table) {
 fn some_calls(bench: &mut Bench, random: &mut Random, table: &Table, port: &Port) {
     let mut record = Record::from(port).bytes();
     for _ in 0..10 {
-        let made = any_call(random, table);
+        let made = any_call(random, table, left_of(&record));
         bench.call(&mut record, &call_bytes(made), ANSWER_SIZE);
     }
 }
@@ -178,11 +178,14 @@ fn edges(bench: &mut Bench, sound: &Port) {
                 held(bench, &port, false);
             }
         }
-        // The oldest as old as its bound, and one byte-time younger.
-        for (off, sound_too) in [(1, true), (0, false)] {
+        // The oldest as old as its residence, and younger: also about its bound.
+        for younger in [0, 1, GAP - 1, GAP, GAP + 1] {
             let mut port = sound.clone();
-            of_row(&mut port, row)[0].instant = port.clock + off - plan.bounds[row];
-            held(bench, &port, sound_too);
+            let age = plan.residences[row] - younger;
+            of_row(&mut port, row)[0].instant = port.clock - age;
+            // The second may be too near then.
+            let apart = instants[1].saturating_sub(port.clock - age) >= period;
+            held(bench, &port, younger > 0 && apart);
         }
     }
 }

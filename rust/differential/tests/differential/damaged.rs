@@ -9,7 +9,7 @@ use cases::ports;
 use cases::random::Random;
 use cases::tables;
 use cases::traffic::any_call;
-use differential::readable::port_of;
+use differential::readable::{left_of, port_of};
 use ithumeco::{call_bytes, put_words, words, Record, ANSWER_SIZE, RECORD_SIZE, WORD_SIZE};
 use simulator::port::{CLAUSES, LAST_CLOCK};
 use simulator::table::accept;
@@ -153,7 +153,7 @@ fn clauses(bench: &mut Bench, random: &mut Random, port: &Port, seen: &mut BTree
         every_call(bench, port, one);
         for other in &damaged[place + 1..] {
             let pair = with_changes(one, &sound, other);
-            call(bench, &pair, any_call(random, &port.table));
+            call(bench, &pair, any_call(random, &port.table, left_of(&pair)));
         }
     }
 }
@@ -174,12 +174,16 @@ fn with_changes(
 }
 
 /// Words at the edges of fields and rules.
-const EDGES: [u64; 30] = [
+const EDGES: [u64; 34] = [
     0,
     1,
     2,
     5,
     7,
+    11,
+    12,
+    13,
+    14,
     16,
     17,
     32,
@@ -226,7 +230,8 @@ fn every_word(bench: &mut Bench, random: &mut Random, port: &Port) {
         {
             let mut record = sound;
             put(&mut record, at, word);
-            call(bench, &record, any_call(random, &port.table));
+            let made = any_call(random, &port.table, left_of(&record));
+            call(bench, &record, made);
         }
     }
 }
@@ -249,7 +254,8 @@ fn some_words(bench: &mut Bench, random: &mut Random, port: &Port) {
             };
             put(&mut record, at, word);
         }
-        call(bench, &record, any_call(random, &port.table));
+        let made = any_call(random, &port.table, left_of(&record));
+        call(bench, &record, made);
     }
 }
 
@@ -283,7 +289,7 @@ fn changed(bench: &mut Bench, random: &mut Random, seen: &mut BTreeSet<&str>) {
         seen.extend(broken(&port));
         let mut record = Record::from(&port).bytes();
         for _ in 0..4 {
-            let made = any_call(random, &sound.table);
+            let made = any_call(random, &sound.table, left_of(&record));
             bench.call(&mut record, &call_bytes(made), ANSWER_SIZE);
         }
     }
@@ -303,7 +309,7 @@ fn junk(bench: &mut Bench, random: &mut Random, port: &Port) {
         every_call(bench, &port, &record);
         let mut kept = record;
         for _ in 0..10 {
-            let made = any_call(random, &port.table);
+            let made = any_call(random, &port.table, left_of(&kept));
             bench.call(&mut kept, &call_bytes(made), ANSWER_SIZE);
         }
     }

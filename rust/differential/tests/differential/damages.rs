@@ -8,7 +8,7 @@ use simulator::table::{Accepted, Figures};
 pub type Damage = fn(&mut Record, &Accepted);
 
 pub const DAMAGES: &[Damage] = &[
-    // another version of the layout, or one that had none
+    // another version, or one that had none
     |record, _| record.version += 1,
     |record, _| record.version -= 1,
     |record, _| record.version = record.idle_a,
@@ -23,8 +23,8 @@ pub const DAMAGES: &[Damage] = &[
     |record, _| by_period(record).pace = 83,
     |record, _| by_period(record).pace += 1,
     |record, _| by_period(record).pace += 1 << 32,
-    |record, plan| record.rows[1].deadline = plan.bounds[1] - 1,
-    |record, plan| record.rows[1].deadline = plan.bounds[1],
+    |record, plan| record.rows[1].deadline = plan.bounds()[1] - 1,
+    |record, plan| record.rows[1].deadline = plan.bounds()[1],
     // a rate and its samples: "(1,000 to 200,000 Hz)", "(1 to 255)"
     |record, _| by_rate(record).pace = 0,
     |record, _| by_rate(record).pace = 999,
@@ -98,8 +98,13 @@ pub const DAMAGES: &[Damage] = &[
     |record, _| record.queue_best.frames[0].size += 1,
     |record, _| record.wire.frame.size = 83,
     |record, _| record.wire.frame.size = 1543,
-    // "bytes left are 0 or above the size"
+    // "bytes left are 0 or above the size"; those of the gap are neither
     |record, _| record.wire.left = 0,
+    |record, _| record.wire.left = 1,
+    |record, _| record.wire.left = 11,
+    |record, _| record.wire.left = 12,
+    |record, _| record.wire.left = 13,
+    |record, _| record.wire.left = 14,
     |record, _| record.wire.left = record.wire.frame.size,
     |record, _| record.wire.left = record.wire.frame.size + 1,
     // "an instant of a frame or of a row in use is after the clock"
@@ -141,9 +146,19 @@ pub const DAMAGES: &[Damage] = &[
     |record, _| record.queue_b.frames[0].taken = record.clock - 1,
     |record, _| record.wire.frame.taken = record.clock - 2,
     |record, _| record.last[waiting_row(record)] = LastWords::default(),
-    // "a row's frame is as old as its bound or older"
-    |record, plan| retake_aged(record, plan.bounds[waiting_row(record)] - 1),
-    |record, plan| retake_aged(record, plan.bounds[waiting_row(record)]),
+    // "a row's frame is as old as its bound or older", by C-13 the old figure
+    |record, plan| retake_aged(record, plan.bounds()[waiting_row(record)] - 1),
+    |record, plan| retake_aged(record, plan.bounds()[waiting_row(record)]),
+    |record, plan| retake_aged(record, plan.residences[waiting_row(record)] - 1),
+    |record, plan| retake_aged(record, plan.residences[waiting_row(record)]),
+    |record, plan| send_aged(record, plan, 13, 13),
+    |record, plan| send_aged(record, plan, 12, 13),
+    |record, plan| send_aged(record, plan, 12, 12),
+    |record, plan| send_aged(record, plan, 11, 12),
+    |record, plan| send_aged(record, plan, 1, 1),
+    |record, plan| send_aged(record, plan, 1, 84),
+    |record, plan| send_aged(record, plan, 0, 1),
+    |record, plan| send_aged(record, plan, 0, 12),
     |record, _| retake(record, 0),
 ];
 
@@ -312,7 +327,7 @@ fn add_older(record: &mut Record, plan: &Accepted, class: usize) {
     let of_row = waiting.filter(|frame| frame.source == first.source);
     let oldest = of_row.map(|frame| frame.taken).min().unwrap_or(0);
     let period = period(&record.rows[row]);
-    let taken = oldest.saturating_sub(period.min(plan.bounds[row]));
+    let taken = oldest.saturating_sub(period.min(plan.residences[row]));
     push(self::queue(record, class), FrameWords { taken, ..first });
 }
 
@@ -334,6 +349,31 @@ fn retake_aged(record: &mut Record, age: u64) {
 fn retake(record: &mut Record, taken: u64) {
     record.last[waiting_row(record)] = at(taken);
     record.queue_b.frames[0].taken = taken;
+}
+
+/// The last row of class B sends its smallest frame, its only one in the port,
+/// so much younger than its residence and with so many bytes left.
+fn send_aged(record: &mut Record, plan: &Accepted, younger: u64, left: u64) {
+    let rows = &record.rows[..record.count as usize];
+    let row = rows.iter().rposition(|row| row.class == 1);
+    let row = row.expect("a row of class B");
+    let queue = &mut record.queue_b;
+    let mut waiting = queue.frames[..queue.count as usize].to_vec();
+    waiting.retain(|frame| frame.source != row as u64);
+    queue.frames[..waiting.len()].copy_from_slice(&waiting);
+    queue.count = waiting.len() as u64;
+    let age = plan.residences[row] - younger;
+    let taken = record.clock.wrapping_sub(age);
+    record.last[row] = at(taken);
+    record.wire = WireWords {
+        tag: 1,
+        frame: FrameWords {
+            source: row as u64,
+            size: 84,
+            taken,
+        },
+        left,
+    };
 }
 
 /// The first row of class A.

@@ -4,6 +4,7 @@ use cases::ports::{full, moved, reached};
 use cases::random::Random;
 use cases::traffic::any_call;
 use cases::{crowds, specimen};
+use differential::readable::left_of;
 use ithumeco::{call_bytes, Answer, Record, ANSWER_SIZE};
 use simulator::port::{LAST_CLOCK, MOST_ADVANCE};
 use simulator::{Call, Port};
@@ -12,7 +13,9 @@ use crate::bench::Bench;
 
 pub fn run(bench: &mut Bench) {
     let mut random = Random::new(6);
-    for left in [0, 1, 2, 99, 100, 101, 65_534, 65_535, 65_536, 100_000] {
+    for left in [
+        0, 1, 2, 11, 12, 13, 99, 100, 101, 65_534, 65_535, 65_536, 100_000,
+    ] {
         for port in ports() {
             let late = moved(port, LAST_CLOCK - left);
             for n in edges(left) {
@@ -39,9 +42,9 @@ pub fn run(bench: &mut Bench) {
     }
 }
 
-/// The specimen's port: fresh, and with frames waiting and on the wire; and a
-/// port with full class queues.
-fn ports() -> [Port; 3] {
+/// The specimen's port: fresh, with frames waiting and on the wire, and with one
+/// of them just reported; and a port with full class queues.
+fn ports() -> [Port; 4] {
     let fresh = Port::fresh(specimen::table());
     let mut busy = fresh.clone();
     for row in 0..3 {
@@ -49,14 +52,16 @@ fn ports() -> [Port; 3] {
     }
     busy.offer_best(1500).expect("a sound port");
     busy.advance(1).expect("a sound port");
-    [fresh, busy, full(crowds::full_classes())]
+    let mut in_gap = busy.clone();
+    in_gap.advance(MOST_ADVANCE).expect("a sound port");
+    [fresh, busy, in_gap, full(crowds::full_classes())]
 }
 
 /// Calls one by one on a port's record.
 fn any_calls(bench: &mut Bench, random: &mut Random, port: &Port) {
     let mut record = Record::from(port).bytes();
     for _ in 0..50 {
-        let call = any_call(random, &port.table);
+        let call = any_call(random, &port.table, left_of(&record));
         bench.call(&mut record, &call_bytes(call), ANSWER_SIZE);
     }
 }

@@ -99,7 +99,8 @@ fn full_classes(bench: &mut Bench, random: &mut Random, seen: &mut Seen) {
     for _ in 0..bench.times(2000) {
         let mut table = tables::crowded(random, u64::MAX);
         let place = random.below(table.rows.len());
-        tables::crowd(&mut table, place, random.between(0, 1));
+        let off = random.between(0, 1);
+        tables::crowd(random, &mut table, place, off);
         open(bench, random, seen, &file_of(&table));
     }
 }

@@ -14,11 +14,13 @@ use cases::files::{any_file, damaged, noise};
 use cases::lines;
 use cases::random::Random;
 use cases::specimen::{self, FILE};
-use cases::traffic::TRAFFIC;
+use cases::traffic::{random_calls, TRAFFIC};
 use cases::{crowds, rates, tables};
 use simulator::file_of;
 
 use crate::bench::Bench;
+use crate::gaps;
+use crate::kinds::Way;
 
 pub fn run(bench: &mut Bench) {
     let folder = format!("programs-{}", process::id());
@@ -52,6 +54,15 @@ pub fn run(bench: &mut Bench) {
         let file = mostly_accepted(&mut random);
         let text = any_text(&mut random, &file);
         programs.list(bench, &file, &text, random.one_in(4));
+    }
+    for mut driver in gaps::lists(&specimen::table()) {
+        random_calls(&mut random, &mut driver, 20);
+        programs.played(bench, &driver, random.one_in(4));
+    }
+    for _ in 0..bench.times(200) {
+        let mut driver = Driver::new(tables::lively(&mut random));
+        random.pick(&TRAFFIC)(&mut random, &mut driver, 200);
+        programs.played(bench, &driver, random.one_in(4));
     }
     programs.without_table(bench);
     fs::remove_dir_all(&programs.folder).expect("a folder that was made");
@@ -89,6 +100,13 @@ impl Programs {
         let text = String::from_utf8_lossy(calls);
         assert!(said == meant, "{said}not\n{meant}for {file:02X?}\n{text}");
         count(bench, &said);
+    }
+
+    /// A list that the simulator has played, a call a line.
+    fn played(&self, bench: &mut Bench, driver: &Driver, by_bytes: bool) {
+        let file = file_of(&driver.port.table);
+        self.list(bench, &file, &text_of(driver), by_bytes);
+        bench.kinds.see_list(Way::AsALine, driver);
     }
 
     /// Without a table file `portrun` prints one line of error and no answer.
@@ -176,6 +194,12 @@ fn mostly_accepted(random: &mut Random) -> Vec<u8> {
     }
 }
 
+/// A list's calls, a line each.
+fn text_of(driver: &Driver) -> Vec<u8> {
+    let lines = driver.calls.iter().map(|call| format!("{call}\n"));
+    lines.collect::<String>().into_bytes()
+}
+
 /// A list of calls on a file's port as text, at times with a byte changed or
 /// the end missing.
 fn any_text(random: &mut Random, file: &[u8]) -> Vec<u8> {
@@ -183,9 +207,7 @@ fn any_text(random: &mut Random, file: &[u8]) -> Vec<u8> {
     let mut driver = Driver::new(table);
     let count = random.below(120);
     random.pick(&TRAFFIC)(random, &mut driver, count);
-    let lines = driver.calls.iter().map(|call| format!("{call}\n"));
-    let text: String = lines.collect();
-    let mut text = text.into_bytes();
+    let mut text = text_of(&driver);
     if !text.is_empty() && random.one_in(4) {
         let at = random.below(text.len());
         text[at] = random.pick(b"0 \nabo\xFF");

@@ -1,4 +1,5 @@
-//! The promise: no frame of a row is older than its row's bound when it ends.
+//! The promise: no frame of a row is older than its row's bound when it is
+//! reported ended.
 
 use cases::driver::Driver;
 use cases::hunt::Hunt;
@@ -57,13 +58,13 @@ fn on_table(bench: &mut Bench, random: &mut Random, closest: &mut Closest, table
 }
 
 /// The ages that came closest to their bounds: in A, in B where there is no
-/// row of A, and in B behind A; then the same of frames that ended with another
-/// frame of their row in the port.
+/// row of A, and in B behind A; then the same of frames that were reported with
+/// another frame of their row in the port.
 #[derive(Default)]
 struct Closest {
     ages: [(u64, u64); 6],
     frames: u64,
-    /// The frames that ended with another of their row in the port.
+    /// The frames that were reported with another of their row in the port.
     beside: u64,
     /// The most frames of a row and of a class that were in the port at once.
     most: usize,

@@ -5,7 +5,7 @@ use cases::random::Random;
 use cases::specimen;
 use cases::tables;
 use cases::traffic::{any_call, dense_calls, random_calls};
-use differential::readable::port_of;
+use differential::readable::{left_of, port_of};
 use ithumeco::{call_bytes, Answer, Record, ANSWER_SIZE, CALL_SIZE, RECORD_SIZE};
 use simulator::{file_of, Call, Port, Table};
 
@@ -55,10 +55,11 @@ fn misfits(bench: &mut Bench, random: &mut Random) {
         bench.call(&mut record, &call[..len], ANSWER_SIZE);
     }
     for room in 0..ANSWER_SIZE * 2 {
-        bench.call(&mut record, &call_bytes(any_call(random, &table)), room);
+        let call = any_call(random, &table, left_of(&record));
+        bench.call(&mut record, &call_bytes(call), room);
     }
     for _ in 0..bench.times(20_000) {
-        let mut call = call_bytes(any_call(random, &table));
+        let mut call = call_bytes(any_call(random, &table, left_of(&record)));
         if random.one_in(2) {
             call[random.below(CALL_SIZE)] ^= 1 << random.below(8);
         }

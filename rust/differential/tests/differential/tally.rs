@@ -2,6 +2,9 @@
 
 use std::iter;
 
+use crate::bench::Bench;
+use crate::kinds::Kinds;
+
 /// The numbers of the documents' refusals, and of bytes that do not fit.
 fn refusals() -> impl Iterator<Item = usize> {
     (1..=20).chain(101..=103)
@@ -13,15 +16,18 @@ pub type Counts = [u64; 256];
 #[derive(Default)]
 pub struct Tally {
     groups: Vec<(&'static str, Counts)>,
+    kinds: Kinds,
 }
 
 impl Tally {
-    pub fn add(&mut self, name: &'static str, cases: u64, seconds: f64, numbers: &Counts) {
-        println!("{name:<8} {cases:>8} cases {seconds:>7.2} s");
-        self.groups.push((name, *numbers));
+    pub fn add(&mut self, name: &'static str, bench: &Bench, seconds: f64) {
+        println!("{name:<8} {:>8} cases {seconds:>7.2} s", bench.cases);
+        self.groups.push((name, bench.numbers));
+        self.kinds.add(&bench.kinds);
     }
 
-    /// How often each group has seen each number, 0 standing for no refusal.
+    /// How often each group has seen each number, 0 standing for no refusal, and
+    /// how often all of them have met each kind of call about the gap.
     pub fn print(&self) {
         print!("number");
         for (name, _) in &self.groups {
@@ -35,12 +41,14 @@ impl Tally {
             }
             println!();
         }
+        self.kinds.print();
     }
 
-    /// The refusals that no group has seen.
-    pub fn unseen(&self) -> Vec<usize> {
-        refusals()
-            .filter(|&number| self.groups.iter().all(|(_, counts)| counts[number] == 0))
-            .collect()
+    /// The refusals that no group has seen, and the kinds that none has met.
+    pub fn unseen(&self) -> Vec<String> {
+        let unseen = |&number: &usize| self.groups.iter().all(|(_, counts)| counts[number] == 0);
+        let refusals = refusals().filter(unseen);
+        let refusals = refusals.map(|number| format!("refusal {number} is not seen"));
+        refusals.chain(self.kinds.unmet()).collect()
     }
 }

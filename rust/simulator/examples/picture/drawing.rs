@@ -5,7 +5,7 @@ mod run;
 mod svg;
 
 use run::Run;
-use simulator::table::D;
+use simulator::table::{D, GAP};
 use simulator::{Mark, Refusal};
 use svg::{Colours, Svg, BAR, DARK, MARGIN, WHITE};
 
@@ -33,6 +33,7 @@ const AHEAD: Colours = ("#8db4dc", DARK);
 const BLOCKING: Colours = ("#c3c8cd", DARK);
 const OWN: Colours = ("#0b3c6f", WHITE);
 const UNUSED: Colours = ("#f2b36b", DARK);
+const GAP_COLOUR: &str = THIN;
 
 fn x(clock: u64) -> f64 {
     LEFT + 0.25 * clock as f64
@@ -50,7 +51,7 @@ fn millions(credit: i64) -> String {
 fn draw_guides(svg: &mut Svg, run: &Run) {
     let (best, own, bound) = (run.best(), run.own(), run.bound);
     let (top, bottom) = (FRAMES - 18.0, TERMS - BAR / 2.0);
-    for clock in [own.taken, best.begun, own.begun, own.ended] {
+    for clock in [own.taken, best.begun, own.begun, own.reported] {
         svg.line(&[(x(clock), top), (x(clock), bottom)], GUIDE, 1.0);
     }
     svg.line(&[(x(bound), top), (x(bound), bottom)], DARK, 2.0);
@@ -59,9 +60,10 @@ fn draw_guides(svg: &mut Svg, run: &Run) {
     svg.tell("end", x(bound), top - 8.0, &words);
 }
 
-/// 1. Each frame: how long it waits, and when it is on the wire.
+/// 1. Each frame: how long it waits, and when it is on the wire, its gap apart.
 fn draw_frames(svg: &mut Svg, run: &Run) {
-    svg.heading(FRAMES - 26.0, 13, "Frames waiting (light) and on the wire");
+    let words = format!("Frames waiting (light) and on the wire, their gap of {GAP} in dark grey");
+    svg.heading(FRAMES - 26.0, 13, &words);
     let mut lane = FRAMES;
     for sent in &run.sent {
         let (name, colours) = match sent.mark {
@@ -69,21 +71,27 @@ fn draw_frames(svg: &mut Svg, run: &Run) {
             Mark::Row(row) if row == run.row => (format!("row {row}"), OWN),
             Mark::Row(row) => (format!("row {row}"), AHEAD),
         };
-        let (taken, begun, ended) = (sent.taken, sent.begun, sent.ended);
+        let (taken, begun, over) = (sent.taken, sent.begun, sent.over);
         let waits = format!("waits {}", begun - taken);
         svg.bar((x(taken), x(begun)), lane, WAITING, &waits);
-        let size = (ended - begun).to_string();
-        svg.bar((x(begun), x(ended)), lane, colours, &size);
+        let size = (over - begun).to_string();
+        svg.bar((x(begun), x(over)), lane, colours, &size);
+        let gap = [(x(sent.reported), lane), (x(over), lane)];
+        svg.line(&gap, GAP_COLOUR, BAR);
         svg.words("start", MARGIN, lane + 4.5, &name);
-        svg.told += &format!(" {name}: {waits}, on the wire from {begun} to {ended}.");
+        let reported = sent.reported;
+        svg.told += &format!(
+            " {name}: {waits}, on the wire from {begun} to {over}, reported at {reported}."
+        );
         lane += LANE;
     }
-    let (begun, ended) = (run.best().begun, run.own().ended);
+    let (begun, reported) = (run.best().begun, run.own().reported);
     let (row, turn) = (run.row, begun + 1);
     let words = format!("begins at {begun}: row {row} could go out at {turn}");
     svg.tell("start", x(begun) + 8.0, lane - 3.0 * LANE + 4.5, &words);
-    let words = format!("ends at {ended}, {} before its bound", run.bound - ended);
-    svg.tell("end", x(ended), lane, &words);
+    let before = run.bound - reported;
+    let words = format!("reported at {reported}, {before} before its bound");
+    svg.tell("end", x(reported), lane, &words);
 }
 
 /// 2. The credit of the class.
@@ -121,22 +129,23 @@ fn draw_credit(svg: &mut Svg, run: &Run) {
     let words = format!("up to {high_told}: row {row} waits, but the wire is taken");
     svg.tell("end", x(own.begun) - 16.0, y(high) + 4.5, &words);
     let words = "no frame left: back to 0";
-    svg.tell("end", x(own.ended) - 8.0, y(0) - 8.0, words);
+    svg.tell("end", x(own.over) - 8.0, y(0) - 8.0, words);
 }
 
 /// 3. The terms of the bound, each where it stands in the run.
 fn draw_terms(svg: &mut Svg, run: &Run) {
     let (class, row, own, pause) = (run.figures, run.row, run.own(), run.pause());
-    let (bound, size, largest) = (run.bound, own.ended - own.begun, class.largest);
+    let (bound, size, largest) = (run.bound, own.over - own.begun, class.largest);
     let ahead = D * (class.sum - size) / class.idle;
-    let debt = bound - size - class.blocking - ahead;
-    let formula = "C + H + (D × (sum of C − C) + S × L) / I";
+    let debt = bound + GAP - size - class.blocking - ahead;
+    let formula = format!("C + H + (D × (sum of C − C) + S × L) / I − {GAP}");
     let words = format!("The bound of row {row}: {formula} = {bound}");
     svg.heading(TERMS - 28.0, 13, &words);
+    let but_the_gap = format!("C − {GAP}");
     let terms = [
         ("D × (sum of C − C) / I", ahead, AHEAD),
         ("H", class.blocking, BLOCKING),
-        ("C", size, OWN),
+        (&but_the_gap, size - GAP, OWN),
         ("S × L / I", debt, UNUSED),
     ];
     let meanings = [
@@ -145,7 +154,7 @@ fn draw_terms(svg: &mut Svg, run: &Run) {
              and {pause} byte-times until the credit is at 0 again"
         ),
         format!("blocking: a full best-effort frame, begun one byte-time before row {row}'s turn"),
-        "the frame's own bytes".into(),
+        format!("the frame's own bytes but its gap: it is reported when these {GAP} are left"),
         "a debt of credit, had a largest frame been sent just before: \
          here none was, so this is left over"
             .into(),
@@ -177,8 +186,8 @@ fn draw_time(svg: &mut Svg, end: u64, y: f64) {
 pub fn picture() -> Result<String, Refusal> {
     let run = Run::of(TABLE)?;
     let (own, row, bound) = (run.own(), run.row, run.bound);
-    let age = own.ended - own.taken;
-    let title = format!("A frame near its bound: it ends after {age} of {bound} byte-times");
+    let age = own.reported - own.taken;
+    let title = format!("A frame near its bound: it is reported after {age} of {bound} byte-times");
     let mut svg = Svg::default();
     svg.heading(36.0, 18, &title);
     let words = format!(

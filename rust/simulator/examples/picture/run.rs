@@ -1,16 +1,17 @@
 //! The run: the last row's frame is taken behind one of every other row, and
 //! one byte-time before its turn a best-effort frame begins.
 
-use simulator::table::Figures;
+use simulator::table::{Figures, GAP};
 use simulator::{bounds, read, Class, Mark, Port, Refusal, Wire};
 
 /// A frame that was sent: the clock when it was taken, when its first byte
-/// went out and when it ended.
+/// went out, when it was reported ended and when its gap was over.
 pub struct Sent {
     pub mark: Mark,
     pub taken: u64,
     pub begun: u64,
-    pub ended: u64,
+    pub reported: u64,
+    pub over: u64,
 }
 
 pub struct Run {
@@ -55,8 +56,9 @@ impl Run {
         self.sent.extend(ended.map(|frame| Sent {
             mark: frame.mark,
             taken: frame.instant,
-            begun: port.clock - frame.size,
-            ended: port.clock,
+            begun: port.clock + GAP - frame.size,
+            reported: port.clock,
+            over: port.clock + GAP,
         }));
         self.credit.push(port.credit_a);
         Ok(())
@@ -72,8 +74,8 @@ impl Run {
         &self.sent[self.sent.len() - 2]
     }
 
-    /// Byte-times from the end of a row's frame to the next row's.
+    /// Byte-times from the end of a row's gap to the next row's frame.
     pub fn pause(&self) -> u64 {
-        self.sent[1].begun - self.sent[0].ended
+        self.sent[1].begun - self.sent[0].over
     }
 }

@@ -1,7 +1,7 @@
 //! C-12: deadlines longer than the period, and rows with several frames in the
 //! port.
 
-use crate::frames::{best, frame};
+use crate::frames::{best, ended, frame};
 use crate::refusals::refusal;
 use cases::crowds;
 use cases::ports::{full, full_reversed};
@@ -9,7 +9,7 @@ use cases::tables::row;
 use simulator::file::file_of;
 use simulator::table::{accept, MOST_IN_CLASS};
 use simulator::{
-    bounds, broken, open, portsheet, read, write, Advance, Class, Mark, Pace, Port, Table, Wire,
+    bounds, broken, open, portsheet, read, write, Class, Mark, Pace, Port, Table, Wire,
 };
 
 fn of_row(row: usize) -> impl Fn(&simulator::Frame) -> bool {
@@ -21,10 +21,12 @@ fn most(table: &Table) -> Vec<u64> {
     accept(table).unwrap().most[..table.rows.len()].to_vec()
 }
 
+/// C-13: the count is by the old figure, 12 more than the bound.
 #[test]
-fn the_bound_by_the_period_rounded_up() {
+fn the_residence_by_the_period_rounded_up() {
     let table = crowds::four_of_each();
-    assert_eq!(bounds(&table).unwrap()[..5], [2102; 5]);
+    assert_eq!(accept(&table).unwrap().residences[..5], [2102; 5]);
+    assert_eq!(bounds(&table).unwrap()[..5], [2090; 5]);
     assert_eq!(most(&table), [4; 5]);
     let with_period = |period| {
         let mut table = crowds::four_of_each();
@@ -100,8 +102,8 @@ fn deadlines_whatever_the_period() {
     };
     assert_eq!(opens(0), Err(refusal(5, 2)));
     assert_eq!(opens(600), Err(refusal(10, 2)));
-    assert_eq!(opens(2101), Err(refusal(10, 2)));
-    assert_eq!(opens(2102), Ok(()));
+    assert_eq!(opens(2089), Err(refusal(10, 2)));
+    assert_eq!(opens(2090), Ok(()));
     assert_eq!(opens(1_000_000_000), Ok(()));
     assert_eq!(opens(1_000_000_001), Err(refusal(5, 2)));
     // Its default stays the period: a file has it only where it is another.
@@ -116,7 +118,7 @@ fn deadlines_whatever_the_period() {
     assert_eq!(read(&file_of(&table)), Ok(table));
 }
 
-/// Advances to a clock, past ends of frames.
+/// Advances to a clock, past reports of frames.
 fn to(port: &mut Port, clock: u64) {
     while port.clock < clock {
         port.advance((clock - port.clock).min(65_535)).unwrap();
@@ -147,17 +149,11 @@ fn four_frames_of_a_row_at_once() {
         );
     }
     assert_eq!(port.queue_a.len(), 4);
-    // There is no fifth before the next period, and the first has ended by then.
+    // There is no fifth before the next period, and the first is gone by then.
     assert_eq!(port.offer(4, 42), Err(refusal(13, 0)));
-    let ended = |passed, frame| {
-        Ok(Advance {
-            passed,
-            ended: Some(frame),
-        })
-    };
-    assert_eq!(port.advance(65_535), ended(189, best(1542, 447)));
+    assert_eq!(port.advance(65_535), ended(177, best(1542, 447)));
     assert_eq!(port.advance(65_535), ended(84, frame(4, 84, 0)));
-    assert_eq!(port.clock, 2073);
+    assert_eq!(port.clock, 2061);
     assert_eq!(port.advance(65_535), ended(84, frame(4, 84, 600)));
     to(&mut port, 2399);
     assert_eq!(port.offer(4, 42), Err(refusal(13, 0)));
@@ -202,7 +198,7 @@ fn one_frame_too_many() {
         let add = |port: &mut Port| port.queue_a.push_back(frame(4, 84, instant));
         assert_eq!(after(add), name);
     }
-    // A row with a period no shorter than its bound has one.
+    // A row with a period no shorter than its residence has one.
     let slow = |port: &mut Port| port.table.rows[0].pace = Pace::Period(2102);
     assert_eq!(after(slow), None);
     let second = |port: &mut Port| {
@@ -286,10 +282,12 @@ fn the_newest_has_the_last_instant() {
 }
 
 #[test]
-fn every_frame_is_younger_than_the_bound() {
-    let name = Some("a row's frame is as old as its bound");
+fn every_frame_is_younger_than_the_residence() {
+    let name = Some("a row's frame is as old as its residence");
     let sent = |instant| move |port: &mut Port| port.wire = Wire::Sending(frame(4, 84, instant), 1);
-    assert_eq!(after(sent(12_000 - 2101)), None);
+    for age in [2089, 2090, 2091, 2101] {
+        assert_eq!(after(sent(12_000 - age)), None);
+    }
     assert_eq!(after(sent(12_000 - 2102)), name);
 }
 

@@ -1,26 +1,11 @@
 //! The scope's own numbers.
 
-use crate::frames::{best, frame};
+use crate::frames::{best, ended, frame, none};
 use cases::specimen::{table, FILE};
 use cases::tables::row;
 use simulator::{
-    bounds, open, portrun, portsheet, read, wire_size, write, Advance, Class, Port, Refusal, Table,
-    Wire,
+    bounds, open, portrun, portsheet, read, wire_size, write, Class, Port, Refusal, Table, Wire,
 };
-
-fn ended(passed: u64, row: usize, size: u64, instant: u64) -> Result<Advance, Refusal> {
-    Ok(Advance {
-        passed,
-        ended: Some(frame(row, size, instant)),
-    })
-}
-
-fn none(passed: u64) -> Result<Advance, Refusal> {
-    Ok(Advance {
-        passed,
-        ended: None,
-    })
-}
 
 #[test]
 fn specimen_reads() {
@@ -44,9 +29,9 @@ fn specimen_sheet() {
     assert_eq!(
         portsheet(&FILE),
         "row class wire period deadline bound\n\
-         0 A 100 15625 15625 3742\n\
-         1 A 300 15625 6000 3142\n\
-         2 B 500 31250 31250 4856\n"
+         0 A 100 15625 15625 3730\n\
+         1 A 300 15625 6000 3130\n\
+         2 B 500 31250 31250 4844\n"
     );
 }
 
@@ -69,7 +54,7 @@ fn specimen_blocking() {
 #[test]
 fn fact_a_bounds() {
     let mut expected = [0; 32];
-    expected[..3].copy_from_slice(&[3742, 3142, 4856]);
+    expected[..3].copy_from_slice(&[3730, 3130, 4844]);
     assert_eq!(bounds(&table()), Ok(expected));
 }
 
@@ -99,14 +84,11 @@ fn fact_d_best_effort_one_byte_ahead() {
     assert_eq!(port.offer_best(1500), Ok(()));
     assert_eq!(port.advance(1), none(1));
     assert_eq!(port.offer(0, 58), Ok(()));
-    let expected = Advance {
-        passed: 1541,
-        ended: Some(best(1542, 0)),
-    };
-    assert_eq!(port.advance(5000), Ok(expected));
+    assert_eq!(port.advance(5000), ended(1529, best(1542, 0)));
     // Credit does not stop at 0 while a frame waits.
-    assert_eq!(port.credit_a, 1541 * 250_000);
-    assert_eq!(port.advance(5000), ended(100, 0, 100, 1));
+    assert_eq!(port.credit_a, 1529 * 250_000);
+    assert_eq!(port.advance(5000), ended(100, frame(0, 100, 1)));
+    assert_eq!(port.advance(12), none(12));
     assert_eq!(port.credit_a, 0);
     assert_eq!(port.clock, 1642);
 }
@@ -115,20 +97,21 @@ fn fact_d_best_effort_one_byte_ahead() {
 fn fact_e_credit_stays_below_zero() {
     let mut port = Port::fresh(table());
     assert_eq!(port.offer(0, 58), Ok(()));
-    assert_eq!(port.advance(5000), ended(100, 0, 100, 0));
+    assert_eq!(port.advance(5000), ended(88, frame(0, 100, 0)));
+    assert_eq!(port.advance(12), none(12));
     assert_eq!(port.credit_a, -75_000_000);
     assert_eq!(port.offer(1, 258), Ok(()));
-    // With credit set to 0 on the empty queue it would be 300.
-    assert_eq!(port.advance(1000), ended(600, 1, 300, 100));
-    assert_eq!(port.clock, 700);
+    // With credit set to 0 on the empty queue it would be 288.
+    assert_eq!(port.advance(1000), ended(588, frame(1, 300, 100)));
+    assert_eq!(port.clock, 688);
 }
 
 #[test]
 fn fact_f_deadline_at_the_bound() {
     let mut table = table();
-    table.rows[1].deadline = 3142;
+    table.rows[1].deadline = 3130;
     assert_eq!(open(&table), Ok(()));
-    table.rows[1].deadline = 3141;
+    table.rows[1].deadline = 3129;
     let refusal = Refusal {
         number: 10,
         place: 1,
@@ -144,8 +127,8 @@ fn fact_g_early() {
     });
     let mut port = Port::fresh(table());
     assert_eq!(port.offer(0, 58), Ok(()));
-    assert_eq!(port.advance(20_000), ended(100, 0, 100, 0));
-    assert_eq!(port.advance(15_524), none(15_524));
+    assert_eq!(port.advance(20_000), ended(88, frame(0, 100, 0)));
+    assert_eq!(port.advance(15_536), none(15_536));
     // A refused offer moves nothing, the row's last instant included.
     let before = port.clone();
     assert_eq!(port.offer(0, 58), early);
@@ -236,7 +219,7 @@ fn bound_is_rounded_down() {
         best_payload: 0,
         rows: vec![row(Class::A, 42, 10_000, 10_000)],
     };
-    assert_eq!(bounds(&table).unwrap()[0], 84 + 84 + 68);
+    assert_eq!(bounds(&table).unwrap()[0], 84 + 84 + 68 - 12);
 }
 
 #[test]
@@ -250,13 +233,20 @@ fn credit_moves_by_the_four_steps() {
     assert_eq!((port.credit_a, port.credit_b), (-750_000, 200_000));
     assert_eq!(port.queue_a.len(), 1);
     assert!(matches!(port.wire, Wire::Sending(_, 299)));
-    assert_eq!(port.advance(1000), ended(299, 1, 300, 0));
+    assert_eq!(port.advance(1000), ended(287, frame(1, 300, 0)));
+    assert_eq!((port.credit_a, port.credit_b), (-216_000_000, 57_600_000));
+    // The gap is paid for as the bytes before it.
+    assert_eq!(port.advance(12), none(12));
     assert_eq!((port.credit_a, port.credit_b), (-225_000_000, 60_000_000));
     // A is below 0, so row 2 goes out; A's waiting frame gains I.
-    assert_eq!(port.advance(1000), ended(500, 2, 500, 0));
+    assert_eq!(port.advance(1000), ended(488, frame(2, 500, 0)));
+    assert_eq!((port.credit_a, port.credit_b), (-103_000_000, -330_400_000));
+    assert_eq!(port.advance(12), none(12));
     assert_eq!((port.credit_a, port.credit_b), (-100_000_000, -340_000_000));
     // 400 byte-times to A's credit 0, then 84 bytes; B climbs with no frame.
-    assert_eq!(port.advance(1000), ended(484, 0, 84, 0));
+    assert_eq!(port.advance(1000), ended(472, frame(0, 84, 0)));
+    assert_eq!((port.credit_a, port.credit_b), (-54_000_000, -245_600_000));
+    assert_eq!(port.advance(12), none(12));
     assert_eq!((port.credit_a, port.credit_b), (-63_000_000, -243_200_000));
     // Both climb to 0 and not above.
     assert_eq!(port.advance(2000), none(2000));
@@ -269,7 +259,8 @@ fn credit_climbing_stops_at_zero_when_slope_does_not_divide() {
     table.idle_a = 300_000;
     let mut port = Port::fresh(table);
     port.offer(0, 58).unwrap();
-    assert_eq!(port.advance(100), ended(100, 0, 100, 0));
+    assert_eq!(port.advance(100), ended(88, frame(0, 100, 0)));
+    assert_eq!(port.advance(12), none(12));
     assert_eq!(port.credit_a, -70_000_000);
     assert_eq!(port.advance(233), none(233));
     assert_eq!(port.credit_a, -100_000);
@@ -301,17 +292,17 @@ fn run_of_facts_d_e_and_g() {
     let d = "b 1500\na 1\no 0 58\na 5000\na 5000\n";
     assert_eq!(
         portrun(&FILE, d.as_bytes()),
-        "0 0 33\n0 1 33\n0 0 33\n0 1541 32\n0 100 0\n"
+        "0 0 33\n0 1 33\n0 0 33\n0 1529 32\n0 100 0\n"
     );
-    let e = "o 0 58\na 5000\no 1 258\na 1000";
+    let e = "o 0 58\na 5000\na 12\no 1 258\na 1000";
     assert_eq!(
         portrun(&FILE, e.as_bytes()),
-        "0 0 33\n0 100 0\n0 0 33\n0 600 1\n"
+        "0 0 33\n0 88 0\n0 12 33\n0 0 33\n0 588 1\n"
     );
-    let g = "o 0 58\na 20000\na 15524\no 0 58\na 1\no 0 58\n";
+    let g = "o 0 58\na 20000\na 15536\no 0 58\na 1\no 0 58\n";
     assert_eq!(
         portrun(&FILE, g.as_bytes()),
-        "0 0 33\n0 100 0\n0 15524 33\nrefused 13 0\n0 1 33\n0 0 33\n"
+        "0 0 33\n0 88 0\n0 15536 33\nrefused 13 0\n0 1 33\n0 0 33\n"
     );
 }
 
@@ -342,7 +333,7 @@ fn run_goes_on_after_a_refusal() {
 #[test]
 fn refused_file_is_one_line() {
     let mut deadline = FILE;
-    deadline[23..25].copy_from_slice(&[0x0C, 0x45]);
+    deadline[23..25].copy_from_slice(&[0x0C, 0x39]);
     assert_eq!(portsheet(&deadline), "refused 10 1\n");
     assert_eq!(portrun(&deadline, b"a 1\n"), "refused 10 1\n");
     assert_eq!(portsheet(&FILE[..27]), "refused 1 26\n");

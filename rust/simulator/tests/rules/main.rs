@@ -3,6 +3,7 @@
 mod crowds;
 mod document;
 mod frames;
+mod gap;
 mod random;
 mod rates;
 mod records;

@@ -3,7 +3,7 @@
 use std::collections::BTreeSet;
 
 use cases::crowds;
-use cases::driver::Driver;
+use cases::driver::{left_on, Driver};
 use cases::files::damaged;
 use cases::hunt::Hunt;
 use cases::ports;
@@ -98,7 +98,8 @@ fn a_broken_record_refuses_every_call() {
             }
             let before = port.clone();
             let clause = broken(&port);
-            let answer = port.make(any_call(&mut random, &sound.table));
+            let call = any_call(&mut random, &sound.table, left_on(&port.wire));
+            let answer = port.make(call);
             assert_eq!(answer == refuse(18, 0), clause.is_some());
             assert!(
                 answer.is_ok() || port == before,

@@ -84,10 +84,10 @@ fn opening_judges_by_the_rounded_period() {
         table.rows[1].deadline = deadline;
     };
     refused_open(|table| deadline(table, 0), 5, 1);
-    refused_open(|table| deadline(table, 3_141), 10, 1);
+    refused_open(|table| deadline(table, 3_129), 10, 1);
     let mut table = table();
     deadline(&mut table, 17_006);
-    assert_eq!(bounds(&table).unwrap()[..3], [3742, 3142, 4856]);
+    assert_eq!(bounds(&table).unwrap()[..3], [3730, 3130, 4844]);
     // One sample at 150,001 is 833.3 byte-times, which would have a share of 1,850,413.
     assert_eq!(rated(Class::A, 1500, 150_001, 1).share(), 1_851_141);
     // A share of 17,641, one more than at 17,007.
@@ -123,9 +123,9 @@ fn a_sheet_prints_the_rounded_period() {
     assert_eq!(
         portsheet(&FILE),
         "row class wire period deadline bound\n\
-         0 A 114 17006 16750 2454\n\
-         1 B 84 31250 31250 2590\n\
-         2 A 114 17006 17006 2454\n"
+         0 A 114 17006 16750 2442\n\
+         1 B 84 31250 31250 2578\n\
+         2 A 114 17006 17006 2442\n"
     );
 }
 

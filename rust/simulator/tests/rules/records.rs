@@ -62,8 +62,8 @@ fn table_not_accepted() {
     is_broken(name, |port| port.table.best_payload = u64::MAX);
     is_broken(name, |port| port.table.idle_b = 0);
     is_broken(name, |port| port.table.idle_b = 15_999);
-    is_broken(name, |port| port.table.rows[1].deadline = 3141);
-    is_sound(|port| port.table.rows[1].deadline = 3142);
+    is_broken(name, |port| port.table.rows[1].deadline = 3129);
+    is_sound(|port| port.table.rows[1].deadline = 3130);
     let rate = |port: &mut Port, rate| port.table.rows[0].pace = Pace::Rated { rate, samples: 6 };
     is_broken(name, |port| rate(port, 0));
     is_broken(name, |port| rate(port, 999));
@@ -181,8 +181,10 @@ fn bytes_left_out_of_range() {
     let name = "bytes left are 0 or above the size";
     let left = |port: &mut Port, left| port.wire = Wire::Sending(frame(0, 100, 950), left);
     is_broken(name, |port| left(port, 0));
-    is_sound(|port| left(port, 1));
-    is_sound(|port| left(port, 100));
+    // In the gap, at the report, and before it.
+    for bytes in [1, 11, 12, 13, 14, 100] {
+        is_sound(|port| left(port, bytes));
+    }
     is_broken(name, |port| left(port, 101));
     is_broken(name, |port| left(port, u64::MAX));
 }
@@ -233,23 +235,30 @@ fn a_frame_not_of_the_last_instant() {
 }
 
 #[test]
-fn a_frame_as_old_as_its_bound() {
-    let name = "a row's frame is as old as its bound";
-    let aged = |port: &mut Port, row: usize, age: u64| {
+fn a_frame_as_old_as_its_residence() {
+    let name = "a row's frame is as old as its residence";
+    // Waiting, or on the wire with some bytes left: before its report, at it,
+    // and in the gap.
+    let aged = |port: &mut Port, row: usize, age: u64, left: Option<u64>| {
         *port = Port::fresh(table());
         port.clock = 10_000;
-        let taken = port.clock - age;
-        port.last[row] = Some(taken);
-        if row == 2 {
-            port.queue_b.push_back(frame(row, 84, taken));
-        } else {
-            port.wire = Wire::Sending(frame(row, 84, taken), 1);
+        let taken = frame(row, 84, port.clock - age);
+        port.last[row] = Some(taken.instant);
+        match left {
+            Some(left) => port.wire = Wire::Sending(taken, left),
+            None if row == 2 => port.queue_b.push_back(taken),
+            None => port.queue_a.push_back(taken),
         }
     };
-    for (row, bound) in [(0, 3742), (1, 3142), (2, 4856)] {
-        is_sound(|port| aged(port, row, bound - 1));
-        is_broken(name, |port| aged(port, row, bound));
-        is_broken(name, |port| aged(port, row, bound + 1));
+    // The bounds are 3730, 3130 and 4844: a frame may be older than that.
+    for (row, residence) in [(0, 3742), (1, 3142), (2, 4856)] {
+        for left in [None, Some(84), Some(13), Some(12), Some(11), Some(1)] {
+            for younger in [13, 12, 11, 1] {
+                is_sound(|port| aged(port, row, residence - younger, left));
+            }
+            is_broken(name, |port| aged(port, row, residence, left));
+            is_broken(name, |port| aged(port, row, residence + 1, left));
+        }
     }
     // Best effort has no bound.
     is_sound(|port| {

@@ -188,7 +188,7 @@ fn opening_3_row_count() {
     assert_eq!(open(&full), Ok(()));
     assert_eq!(
         bounds(&full).unwrap()[31],
-        84 + 1542 + (31 * 84 * 4 + 84 * 3)
+        84 + 1542 + (31 * 84 * 4 + 84 * 3) - 12
     );
 }
 
@@ -257,9 +257,9 @@ fn opening_9_shares_above_i() {
 
 #[test]
 fn opening_10_a_bound_above_its_deadline() {
-    refused_open(|table| table.rows[0].deadline = 3741, 10, 0);
-    refused_open(|table| table.rows[1].deadline = 3141, 10, 1);
-    refused_open(|table| table.rows[2].deadline = 4855, 10, 2);
+    refused_open(|table| table.rows[0].deadline = 3729, 10, 0);
+    refused_open(|table| table.rows[1].deadline = 3129, 10, 1);
+    refused_open(|table| table.rows[2].deadline = 4843, 10, 2);
     refused_open(
         |table| {
             table.rows[1].deadline = 1;
@@ -269,9 +269,9 @@ fn opening_10_a_bound_above_its_deadline() {
         1,
     );
     let mut tight = table();
-    tight.rows[0].deadline = 3742;
-    tight.rows[1].deadline = 3142;
-    tight.rows[2].deadline = 4856;
+    tight.rows[0].deadline = 3730;
+    tight.rows[1].deadline = 3130;
+    tight.rows[2].deadline = 4844;
     assert_eq!(open(&tight), Ok(()));
 }
 
@@ -322,11 +322,15 @@ fn advancing_15_16() {
     assert_eq!(port.clock, 1_099_511_627_775);
     refused(&mut port, |port| port.advance(1).err(), 16);
     assert_eq!(port.advance(0).unwrap().passed, 0);
-    // Refused by n, though a frame would end sooner.
+    // Refused by n, though a frame would be reported sooner, and then though
+    // the wire would be free sooner.
     port.clock -= 100;
     assert_eq!(port.offer(0, 0), Ok(()));
     refused(&mut port, |port| port.advance(101).err(), 16);
-    assert_eq!(port.advance(100).unwrap().passed, 84);
+    assert_eq!(port.advance(100).unwrap().passed, 72);
+    refused(&mut port, |port| port.advance(29).err(), 16);
+    assert_eq!(port.advance(28).unwrap().passed, 28);
+    assert_eq!(port.clock, 1_099_511_627_775);
 }
 
 #[test]

@@ -7,13 +7,13 @@ use Rattle.machine.specs.declared.Frame.{Frame}
 use Rattle.machine.specs.declared.Wire.{Wire}
 use Rattle.machine.specs.declared.Port.{Port}
 use Rattle.bytetime.specs.declared.Ran.{Ran}
-use Rattle.bytetime.specs.Ports.{wireNow}
+use Rattle.bytetime.specs.Ports.{wireBy}
 use Rattle.advances.specs.Steps.{settledBy}
 use borrow.Author.Needs.{needs}
 use Rattle.advances.proofs.ports.settled.Statement.{statement}
 use Rattle.advances.proofs.ports.settled.Tie as tie
 
-by-parts : (p : Port) (ran : Ran) (f : Frame) {v : Wire} {ca cb : ℤ} → v ≡ wireNow (ran .hot .sender) f (ran .hot .left) → ca ≡ ran .hot .credita → cb ≡ ran .hot .creditb → record { table = p .table; clock = p .clock + ran .passed; credita = ca; creditb = cb; a = p .a; b = p .b; best = p .best; last = p .last; wire = v } ≡ settledBy p ran f
+by-parts : (p : Port) (ran : Ran) (f : Frame) {v : Wire} {ca cb : ℤ} → v ≡ wireBy (ran .hot .sender) f (ran .hot .left) → ca ≡ ran .hot .credita → cb ≡ ran .hot .creditb → record { table = p .table; clock = p .clock + ran .passed; credita = ca; creditb = cb; a = p .a; b = p .b; best = p .best; last = p .last; wire = v } ≡ settledBy p ran f
 by-parts p ran f ev ea eb = rw (ev, ea, eb) refl
 
 add-clock : tie.Need-add-clock

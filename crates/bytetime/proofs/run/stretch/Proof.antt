@@ -5,12 +5,12 @@ use mathlib.Core.Path.{_≡_, refl, sym, _∙_}
 use native.Mathlib.Omega.{arith}
 use mir.Syntax.{w64}
 use mir.Val.{toZ, ofZ}
-use Rattle.table.specs.Limits.{D}
+use Rattle.table.specs.Limits.{D, leftAtReport}
 use Rattle.machine.specs.Limits.{mostSteps}
 use Rattle.bytetime.specs.declared.Fixed.{Fixed}
-use Rattle.bytetime.specs.Bytes.{creditAfter, startedHot, runHot, ranWith}
+use Rattle.bytetime.specs.Bytes.{creditAfter, startedHot, runHot, freed, ranWith}
 use Rattle.bytetime.proofs.Signs.{plain, small}
-use Rattle.bytetime.proofs.Turns.{Turn, first-turn, near-a, near-b, free-further, free-again, sends-last, sends-again, stretched}
+use Rattle.bytetime.proofs.Turns.{Turn, first-turn, near-a, near-b, free-further, free-again, sends-last, sends-reported, sends-again, stretched}
 use borrow.Author.Needs.{needs}
 use Rattle.bytetime.proofs.run.stretch.Statement.{statement}
 use Rattle.bytetime.proofs.run.stretch.Tie as tie
@@ -42,11 +42,14 @@ module _ (k : Turned) (x : Fixed) (ea : x .idlea ≡ start k .args .x .idlea) (e
   when-free : k .before .before .before .before .before .before .before .before .before .before .before .before .is-nobody .result ≡ true → runHot (k .before .before .before .before .before .loop .i + 1) (start k .args .h) x ≡ ranWith (start k .args .h) (toZ w64 (ofZ w64 (k .before .before .credit-after .result))) (toZ w64 (ofZ w64 (k .credit-after2 .result))) (k .before .before .before .before .before .loop .left) (k .before .before .before .before .before .loop .i + 1) false
   when-free e = free-further (start k .args .h) x found (k .before .before .before .before .before .before .before .before .before .before .before .is-a .ensures) (k .before .before .before .before .before .before .before .before .before .before .is-b .ensures) (k .before .before .before .keeps .ensures) (k .before .keeps2 .ensures) credit-a credit-b (sym (k .before .before .before .before .before .before .before .before .before .before .before .before .is-nobody .ensures) ∙ e)
 
-  when-last : k .before .before .before .before .before .before .before .before .before .before .before .before .is-nobody .result ≡ false → k .before .before .before .before .before .loop .left ≤ 1 → runHot (k .before .before .before .before .before .loop .i + 1) (start k .args .h) x ≡ ranWith (start k .args .h) (toZ w64 (ofZ w64 (k .before .before .credit-after .result))) (toZ w64 (ofZ w64 (k .credit-after2 .result))) 0 (k .before .before .before .before .before .loop .i + 1) true
+  when-last : k .before .before .before .before .before .before .before .before .before .before .before .before .is-nobody .result ≡ false → k .before .before .before .before .before .loop .left ≤ 1 → runHot (k .before .before .before .before .before .loop .i + 1) (start k .args .h) x ≡ ranWith (freed (start k .args .h)) (toZ w64 (ofZ w64 (k .before .before .credit-after .result))) (toZ w64 (ofZ w64 (k .credit-after2 .result))) 0 (k .before .before .before .before .before .loop .i + 1) false
   when-last e h = sends-last (start k .args .h) x found (k .before .before .before .before .before .before .before .before .before .before .before .is-a .ensures) (k .before .before .before .before .before .before .before .before .before .before .is-b .ensures) (k .before .before .before .keeps .ensures) (k .before .keeps2 .ensures) credit-a credit-b (sym (k .before .before .before .before .before .before .before .before .before .before .before .before .is-nobody .ensures) ∙ e) h
 
-  when-more : k .before .before .before .before .before .before .before .before .before .before .before .before .is-nobody .result ≡ false → 1 < k .before .before .before .before .before .loop .left → Turn (start k .args .h) x (k .before .before .before .before .before .loop .i + 1) (toZ w64 (ofZ w64 (k .before .before .credit-after .result))) (toZ w64 (ofZ w64 (k .credit-after2 .result))) (k .before .before .before .before .before .loop .left - 1)
-  when-more e h = sends-again (start k .args .h) x found (k .before .before .before .before .before .before .before .before .before .before .before .is-a .ensures) (k .before .before .before .before .before .before .before .before .before .before .is-b .ensures) (k .before .before .before .keeps .ensures) (k .before .keeps2 .ensures) credit-a credit-b (sym (k .before .before .before .before .before .before .before .before .before .before .before .before .is-nobody .ensures) ∙ e) h
+  when-reported : k .before .before .before .before .before .before .before .before .before .before .before .before .is-nobody .result ≡ false → 1 < k .before .before .before .before .before .loop .left → k .before .before .before .before .before .loop .left - 1 ≡ leftAtReport → runHot (k .before .before .before .before .before .loop .i + 1) (start k .args .h) x ≡ ranWith (start k .args .h) (toZ w64 (ofZ w64 (k .before .before .credit-after .result))) (toZ w64 (ofZ w64 (k .credit-after2 .result))) (k .before .before .before .before .before .loop .left - 1) (k .before .before .before .before .before .loop .i + 1) true
+  when-reported e h here = sends-reported (start k .args .h) x found (k .before .before .before .before .before .before .before .before .before .before .before .is-a .ensures) (k .before .before .before .before .before .before .before .before .before .before .is-b .ensures) (k .before .before .before .keeps .ensures) (k .before .keeps2 .ensures) credit-a credit-b (sym (k .before .before .before .before .before .before .before .before .before .before .before .before .is-nobody .ensures) ∙ e) h here
+
+  when-more : k .before .before .before .before .before .before .before .before .before .before .before .before .is-nobody .result ≡ false → 1 < k .before .before .before .before .before .loop .left → (k .before .before .before .before .before .loop .left - 1 ≡ leftAtReport → ⊥) → Turn (start k .args .h) x (k .before .before .before .before .before .loop .i + 1) (toZ w64 (ofZ w64 (k .before .before .credit-after .result))) (toZ w64 (ofZ w64 (k .credit-after2 .result))) (k .before .before .before .before .before .loop .left - 1)
+  when-more e h other = sends-again (start k .args .h) x found (k .before .before .before .before .before .before .before .before .before .before .before .is-a .ensures) (k .before .before .before .before .before .before .before .before .before .before .is-b .ensures) (k .before .before .before .keeps .ensures) (k .before .keeps2 .ensures) credit-a credit-b (sym (k .before .before .before .before .before .before .before .before .before .before .before .before .is-nobody .ensures) ∙ e) h other
 
 is-nobody-requires : tie.Need-is-nobody-requires Inv-loop μ-loop
 is-nobody-requires c κs = search needs
@@ -107,7 +110,7 @@ returns : tie.Need-returns Inv-loop μ-loop
 returns c =
     let k = c .before .before .before .before in
     let s = start k in
-    stretched (s .args .h) (s .args .x) (s .args .n) (omega arith) (omega arith) (c .ran .ensures) (when-free k (s .args .x) refl refl (s .pre .1 .0) (c .before .before .before .if1 .taken))
+    stretched (s .args .h) (s .args .x) (s .args .n) (s .args .h) (s .args .h) refl (omega arith) (omega arith) (c .ran .ensures) (when-free k (s .args .x) refl refl (s .pre .1 .0) (c .before .before .before .if1 .taken))
 
 ready-requires-2 : tie.Need-ready-requires-2 Inv-loop μ-loop
 ready-requires-2 c κs = search needs
@@ -119,7 +122,7 @@ returns-2 : tie.Need-returns-2 Inv-loop μ-loop
 returns-2 c =
     let k = c .before .before .before .before .before .before in
     let s = start k in
-    stretched (s .args .h) (s .args .x) (s .args .n) (omega arith) (omega arith) (c .ran2 .ensures) (when-free k (s .args .x) refl refl (s .pre .1 .0) (c .before .before .before .before .before .if1 .taken))
+    stretched (s .args .h) (s .args .x) (s .args .n) (s .args .h) (s .args .h) refl (omega arith) (omega arith) (c .ran2 .ensures) (when-free k (s .args .x) refl refl (s .pre .1 .0) (c .before .before .before .before .before .if1 .taken))
 
 loop-less : tie.Need-loop-less Inv-loop μ-loop
 loop-less c = omega arith
@@ -131,34 +134,46 @@ loop-again c =
     let free = c .before .before .before .before .if1 .taken in
     (omega arith, λ x ea eb e. free-again (s .args .h) x (sym (k .before .before .before .before .before .before .before .before .before .before .before .before .is-nobody .ensures) ∙ free) e (when-free k x ea eb e free) (sym (c .before .before .before .ready .ensures) ∙ c .before .before .if2 .left) (sym (c .before .ready2 .ensures) ∙ c .if3 .left))
 
+freed-requires : tie.Need-freed-requires Inv-loop μ-loop
+freed-requires c κs = search needs
+
 ran-requires-3 : tie.Need-ran-requires-3 Inv-loop μ-loop
 ran-requires-3 c κs = search needs
 
 returns-3 : tie.Need-returns-3 Inv-loop μ-loop
 returns-3 c =
-    let k = c .before .before .before in
+    let k = c .before .before .before .before in
     let s = start k in
-    stretched (s .args .h) (s .args .x) (s .args .n) (omega arith) (omega arith) (c .ran3 .ensures) (when-last k (s .args .x) refl refl (s .pre .1 .0) (c .before .before .if1 .left) (c .before .if4 .taken))
+    stretched (s .args .h) (s .args .x) (s .args .n) (c .before .freed .result) (freed (s .args .h)) (c .before .freed .ensures) (omega arith) (omega arith) (c .ran3 .ensures) (when-last k (s .args .x) refl refl (s .pre .1 .0) (c .before .before .before .if1 .left) (c .before .before .if4 .taken))
 
 sub-left : tie.Need-sub-left Inv-loop μ-loop
 sub-left c = omega arith
-
-loop-less-2 : tie.Need-loop-less-2 Inv-loop μ-loop
-loop-less-2 c = omega arith
-
-loop-again-2 : tie.Need-loop-again-2 Inv-loop μ-loop
-loop-again-2 c =
-    let k = c .before .before in
-    (omega arith, λ x ea eb e. when-more k x ea eb e (c .before .if1 .left) (c .if4 .left))
 
 ran-requires-4 : tie.Need-ran-requires-4 Inv-loop μ-loop
 ran-requires-4 c κs = search needs
 
 returns-4 : tie.Need-returns-4 Inv-loop μ-loop
 returns-4 c =
+    let k = c .before .before .before .before in
+    let s = start k in
+    stretched (s .args .h) (s .args .x) (s .args .n) (s .args .h) (s .args .h) refl (omega arith) (omega arith) (c .ran4 .ensures) (when-reported k (s .args .x) refl refl (s .pre .1 .0) (c .before .before .before .if1 .left) (c .before .before .if4 .left) (c .before .if5 .taken))
+
+loop-less-2 : tie.Need-loop-less-2 Inv-loop μ-loop
+loop-less-2 c = omega arith
+
+loop-again-2 : tie.Need-loop-again-2 Inv-loop μ-loop
+loop-again-2 c =
+    let k = c .before .before .before in
+    (omega arith, λ x ea eb e. when-more k x ea eb e (c .before .before .if1 .left) (c .before .if4 .left) (c .if5 .left))
+
+ran-requires-5 : tie.Need-ran-requires-5 Inv-loop μ-loop
+ran-requires-5 c κs = search needs
+
+returns-5 : tie.Need-returns-5 Inv-loop μ-loop
+returns-5 c =
     let s = c .before .before .before .before .before .before .before .before .before .before in
     let l = c .before .before .loop in
-    stretched (s .args .h) (s .args .x) (s .args .n) (omega arith) (omega arith) (c .ran4 .ensures) (l .inv .1 (s .args .x) refl refl (s .pre .1 .0) .ran)
+    stretched (s .args .h) (s .args .x) (s .args .n) (s .args .h) (s .args .h) refl (omega arith) (omega arith) (c .ran5 .ensures) (l .inv .1 (s .args .x) refl refl (s .pre .1 .0) .ran)
 
 pub stretch-spec : {M : Type 1} → statement M
 stretch-spec =
@@ -187,10 +202,13 @@ stretch-spec =
     returns-2
     loop-less
     loop-again
+    freed-requires
     ran-requires-3
     returns-3
     sub-left
+    ran-requires-4
+    returns-4
     loop-less-2
     loop-again-2
-    ran-requires-4
-    returns-4)
+    ran-requires-5
+    returns-5)

@@ -1,4 +1,4 @@
--- `planner::acceptance::judged` meets its contract: a row's limit is its bound, the search goes from row to row, and at i a class's sum so far, and what the rows from i
+-- `planner::acceptance::judged` meets its contract: a row's time is its residence, the search goes from row to row, and at i a class's sum so far, and what the rows from i
 -- on add, are the whole.
 use Prim.Native.Nat.{ℕ, _+_, _-_, _*_, _^_, _≤_, _<_}
 use mathlib.Core.List.{List}
@@ -14,9 +14,9 @@ use Rattle.table.specs.Limits.{mostRows}
 use Rattle.table.specs.Rows.{noRow, rowsOf, contents}
 use Rattle.table.proofs.Laws.{places, rows-length, Passed, none-yet, fails-here, passes-here, all-passed}
 use Rattle.planner.specs.Sums.{part, sumOver}
-use Rattle.planner.specs.Bound.{bound, bounds, mostOf, mostIn}
+use Rattle.planner.specs.Bound.{residence, residences, mostOf, mostIn}
 use Rattle.planner.specs.Opening.{timely}
-use Rattle.planner.proofs.Limits.{bounds-at}
+use Rattle.planner.proofs.Limits.{residences-at}
 use Rattle.planner.proofs.Left.{sum-turn, sum-end}
 use Rattle.planner.proofs.Crowd.{some, late, in-time, adds}
 use Rattle.planner.proofs.acceptance.judged.Statement.{statement}
@@ -31,8 +31,8 @@ unfolding mostIn
 whole c t = zero-add _
 
 module _ (t : Table) (long : length (t .rows) ≡ 32) (few : t .count ≤ mostRows) (i : ℕ) where
-  limit-is : {limits : List ℕ} → limits ≡ bounds (contents t) → i < t .count → getD limits i 0 ≡ bound (contents t) (getD (t .rows) i noRow)
-  limit-is e h = ap (λ (x : List ℕ). getD x i 0) e ∙ bounds-at t long few i h
+  time-is : {times : List ℕ} → times ≡ residences (contents t) → i < t .count → getD times i 0 ≡ residence (contents t) (getD (t .rows) i noRow)
+  time-is e h = ap (λ (x : List ℕ). getD x i 0) e ∙ residences-at t long few i h
 
   turn : (c : Class) (n m : ℕ) → i < t .count → m ≡ part c (mostOf (contents t)) (getD (t .rows) i noRow) → Rest c t i n → Rest c t (i + 1) (n + m)
   turn c n m h e r = rw e (sum-turn c t long few i (mostOf (contents t)) n h ∙ r)
@@ -41,10 +41,10 @@ module _ (t : Table) (long : length (t .rows) ≡ 32) (few : t .count ≤ mostRo
   end c n h r = sym (sum-end c t long few i (mostOf (contents t)) n h) ∙ r
 
 abbrev Inv-loop : tie.InvT-loop
-Inv-loop t limits n a₀ b₀ i₀ a b i = (n ≡ t .count) × (i ≤ t .count) × (t .count ≤ mostRows) × Passed (timely (contents t)) t i × (a ≤ i * 2 ^ 32) × (b ≤ i * 2 ^ 32) × Rest A t i a × Rest B t i b
+Inv-loop t times n a₀ b₀ i₀ a b i = (n ≡ t .count) × (i ≤ t .count) × (t .count ≤ mostRows) × Passed (timely (contents t)) t i × (a ≤ i * 2 ^ 33) × (b ≤ i * 2 ^ 33) × Rest A t i a × Rest B t i b
 
 abbrev μ-loop : tie.MeasureT-loop
-μ-loop t limits n a₀ b₀ i₀ a b i = n - i
+μ-loop t times n a₀ b₀ i₀ a b i = n - i
 
 loop-holds : tie.Need-loop-holds Inv-loop μ-loop
 loop-holds c = let t = c .args .t1 in (refl, omega arith, c .pre .0, none-yet t (places t _ (c .good .0)) (c .pre .0) (timely (contents t)), omega arith, omega arith, whole A t, whole B t)
@@ -55,41 +55,44 @@ mul-this c = omega arith
 element-copy-out-this : tie.Need-element-copy-out-this Inv-loop μ-loop
 element-copy-out-this c = omega arith
 
-mul-limit : tie.Need-mul-limit Inv-loop μ-loop
-mul-limit c = omega arith
+mul-residence : tie.Need-mul-residence Inv-loop μ-loop
+mul-residence c = omega arith
 
-array-read-limit : tie.Need-array-read-limit Inv-loop μ-loop
-array-read-limit c = omega arith
+array-read-residence : tie.Need-array-read-residence Inv-loop μ-loop
+array-read-residence c = omega arith
+
+bound-of-requires : tie.Need-bound-of-requires Inv-loop μ-loop
+bound-of-requires c κs = search needs
 
 cast-if1 : tie.Need-cast-if1 Inv-loop μ-loop
 cast-if1 c = search needs
 
 returns : tie.Need-returns Inv-loop μ-loop
 returns c =
-    let s = c .before .before .before .before .before in
-    let l = c .before .before .before .before .loop in
+    let s = c .before .before .before .before .before .before in
+    let l = c .before .before .before .before .before .loop in
     let t = s .args .t1 in
     let long = places t _ (s .good .0) in
-    let here : l .i < t .count = c .before .before .before .loop-test .taken in
-    let found = fails-here t long (s .pre .0) (timely (contents t)) (l .i) (l .inv .3) here (late (contents t) _ (limit-is t long (s .pre .0) (l .i) (s .pre .1) here) (c .if1 .taken)) in
+    let here : l .i < t .count = c .before .before .before .before .loop-test .taken in
+    let found = fails-here t long (s .pre .0) (timely (contents t)) (l .i) (l .inv .3) here (late (contents t) _ (time-is t long (s .pre .0) (l .i) (s .pre .1) here) (c .before .before .bound-of .ensures) (c .if1 .taken)) in
     record { timely = found; a = λ h. absurd (omega (arith, rw (rows-length t) at h)); b = λ h. absurd (omega (arith, rw (rows-length t) at h)) }
 
 most-of-requires : tie.Need-most-of-requires Inv-loop μ-loop
 most-of-requires c κs =
-    let s = c .before .before .before .before .before in
-    let l = c .before .before .before .before .loop in
+    let s = c .before .before .before .before .before .before in
+    let l = c .before .before .before .before .before .loop in
     let t = s .args .t1 in
-    some (contents t) _ (limit-is t (places t _ (s .good .0)) (s .pre .0) (l .i) (s .pre .1) (c .before .before .before .loop-test .taken))
+    some (contents t) _ (time-is t (places t _ (s .good .0)) (s .pre .0) (l .i) (s .pre .1) (c .before .before .before .before .loop-test .taken))
 
 add-a : tie.Need-add-a Inv-loop μ-loop
 add-a c = omega arith
 
 most-of-requires-2 : tie.Need-most-of-requires-2 Inv-loop μ-loop
 most-of-requires-2 c κs =
-    let s = c .before .before .before .before .before .before in
-    let l = c .before .before .before .before .before .loop in
+    let s = c .before .before .before .before .before .before .before in
+    let l = c .before .before .before .before .before .before .loop in
     let t = s .args .t1 in
-    some (contents t) _ (limit-is t (places t _ (s .good .0)) (s .pre .0) (l .i) (s .pre .1) (c .before .before .before .before .loop-test .taken))
+    some (contents t) _ (time-is t (places t _ (s .good .0)) (s .pre .0) (l .i) (s .pre .1) (c .before .before .before .before .before .loop-test .taken))
 
 add-b : tie.Need-add-b Inv-loop μ-loop
 add-b c = omega arith
@@ -103,16 +106,16 @@ loop-less c = omega arith
 loop-again : tie.Need-loop-again Inv-loop μ-loop
 loop-again c =
     let e = c .before .before in
-    let s = e .before .before .before .before .before in
-    let l = e .before .before .before .before .loop in
+    let s = e .before .before .before .before .before .before in
+    let l = e .before .before .before .before .before .loop in
     let t = s .args .t1 in
     let long = places t _ (s .good .0) in
-    let here : l .i < t .count = e .before .before .before .loop-test .taken in
-    let is = limit-is t long (s .pre .0) (l .i) (s .pre .1) here in (
+    let here : l .i < t .count = e .before .before .before .before .loop-test .taken in
+    let is = time-is t long (s .pre .0) (l .i) (s .pre .1) here in (
       refl,
       omega arith,
       s .pre .0,
-      passes-here t long (s .pre .0) (timely (contents t)) (l .i) (l .inv .3) here (in-time (contents t) _ is (e .if1 .left)),
+      passes-here t long (s .pre .0) (timely (contents t)) (l .i) (l .inv .3) here (in-time (contents t) _ is (e .before .before .bound-of .ensures) (e .if1 .left)),
       omega arith,
       omega arith,
       turn t long (s .pre .0) (l .i) A (l .a) (c .before .most-of .result) here (c .before .most-of .ensures .0 ∙ adds (contents t) _ is A) (l .inv .6),
@@ -136,8 +139,9 @@ judged-spec =
     loop-holds
     mul-this
     element-copy-out-this
-    mul-limit
-    array-read-limit
+    mul-residence
+    array-read-residence
+    bound-of-requires
     cast-if1
     returns
     most-of-requires

@@ -1,4 +1,4 @@
--- `planner::acceptance::most_of` meets its contract: a row of another class adds nothing, one whose bound is within its period adds one.
+-- `planner::acceptance::most_of` meets its contract: a row of another class adds nothing, one whose residence is within its period adds one.
 use Prim.Native.Nat.{ℕ, _≤_, _<_}
 use mathlib.Core.Bool.{true, false}
 use mathlib.Core.Path.{_≡_, refl}
@@ -14,22 +14,22 @@ use Rattle.planner.proofs.acceptance.most_of.Statement.{statement}
 use Rattle.planner.proofs.acceptance.most_of.Tie as tie
 
 abbrev adds : Class → Row → ℕ → ℕ
-adds c r limit = part c (λ x. ceilDiv limit (periodOf x)) r
+adds c r residence = part c (λ x. ceilDiv residence (periodOf x)) r
 
-other : (c : Class) (r : Row) (limit : ℕ) → sameClass c (r .class) ≡ false → 0 ≡ adds c r limit
-other c r limit e = rw e refl
+other : (c : Class) (r : Row) (residence : ℕ) → sameClass c (r .class) ≡ false → 0 ≡ adds c r residence
+other c r residence e = rw e refl
 
-own : (c : Class) (r : Row) (limit : ℕ) {p n : ℕ} → sameClass c (r .class) ≡ true → p ≡ periodOf r → n ≡ ceilDiv limit p → n ≡ adds c r limit
-own c r limit e q n = rw (e, ← q) n
+own : (c : Class) (r : Row) (residence : ℕ) {p n : ℕ} → sameClass c (r .class) ≡ true → p ≡ periodOf r → n ≡ ceilDiv residence p → n ≡ adds c r residence
+own c r residence e q n = rw (e, ← q) n
 
-one : (limit p : ℕ) → 0 < limit → limit ≤ p → 1 ≡ ceilDiv limit p
-one limit p some h = omega (arith, ceil-most limit p 1 (omega arith) (omega arith), ceil-above limit p 0 (omega arith) (omega arith))
+one : (residence p : ℕ) → 0 < residence → residence ≤ p → 1 ≡ ceilDiv residence p
+one residence p some h = omega (arith, ceil-most residence p 1 (omega arith) (omega arith), ceil-above residence p 0 (omega arith) (omega arith))
 
 same-class-requires : tie.Need-same-class-requires
 same-class-requires c κs = search needs
 
 returns : tie.Need-returns
-returns c = let a = c .before .before .args in (other (a .class) (a .row) (a .limit) (fails (c .before .same-class .ensures) (c .if1 .taken)), omega arith)
+returns c = let a = c .before .before .args in (other (a .class) (a .row) (a .residence) (fails (c .before .same-class .ensures) (c .if1 .taken)), omega arith)
 
 period-requires : tie.Need-period-requires
 period-requires c κs = search needs
@@ -39,7 +39,7 @@ returns-2 c =
     let p = c .before in
     let s = p .before .before in
     let a = s .before .args in
-    (own (a .class) (a .row) (a .limit) (holds (s .same-class .ensures) (p .before .if1 .left)) (p .period .ensures .0) (one (a .limit) (p .period .result) (s .before .pre) (c .if2 .taken)), omega arith)
+    (own (a .class) (a .row) (a .residence) (holds (s .same-class .ensures) (p .before .if1 .left)) (p .period .ensures .0) (one (a .residence) (p .period .result) (s .before .pre) (c .if2 .taken)), omega arith)
 
 ceil-div-requires : tie.Need-ceil-div-requires
 ceil-div-requires c κs = search needs
@@ -49,7 +49,7 @@ returns-3 c =
     let p = c .before .before in
     let s = p .before .before in
     let a = s .before .args in
-    (own (a .class) (a .row) (a .limit) (holds (s .same-class .ensures) (p .before .if1 .left)) (p .period .ensures .0) (c .ceil-div .ensures), omega (arith, c .ceil-div .ensures, ceil-le (a .limit) (p .period .result)))
+    (own (a .class) (a .row) (a .residence) (holds (s .same-class .ensures) (p .before .if1 .left)) (p .period .ensures .0) (c .ceil-div .ensures), omega (arith, c .ceil-div .ensures, ceil-le (a .residence) (p .period .result)))
 
 pub most-of-spec : {M : Type 1} → statement M
 most-of-spec = tie.close (tie.spec same-class-requires returns period-requires returns-2 ceil-div-requires returns-3)

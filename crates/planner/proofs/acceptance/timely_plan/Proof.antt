@@ -55,8 +55,8 @@ lane-b-requires c κs =
     let r = ranged-if _ (p .1 .ranged) in
     (r .idlea, (r .idleb, (p .0 .small-a, p .0 .small-b)))
 
-row-bounds-requires : tie.Need-row-bounds-requires
-row-bounds-requires c κs =
+row-residences-requires : tie.Need-row-residences-requires
+row-residences-requires c κs =
     let p = c .before .before .before .pre in
     let u = slope-limits _ (p .1 .slopes) in (
       few _ (p .1),
@@ -71,7 +71,7 @@ row-bounds-requires c κs =
     )
 
 judged-requires : tie.Need-judged-requires
-judged-requires c κs = (few _ (c .before .before .before .before .pre .1), c .row-bounds .ensures)
+judged-requires c κs = (few _ (c .before .before .before .before .pre .1), c .row-residences .ensures)
 
 refused-requires : tie.Need-refused-requires
 refused-requires c κs = search needs
@@ -114,7 +114,7 @@ returns-4 c =
     let p = s .pre .0 in
     let all : length (rowsOf (s .args .t)) ≤ f .judged .result .timely = rw (rows-length (s .args .t)) (m .if1 .left) in
     accepted-right _ (by-none _ (s .pre .1) (f .judged .ensures .timely) all (roomy A _ (f .judged .ensures .a all) (n .if2 .left)) (roomy B _ (f .judged .ensures .b all) (c .if3 .left)))
-    (is-a _ (p .is-a) (p .is-b) (f .before .before .before .lane-a .ensures .0)) (is-b _ (p .is-a) (p .is-b) (f .before .before .lane-b .ensures .0)) (f .before .row-bounds .ensures)
+    (is-a _ (p .is-a) (p .is-b) (f .before .before .before .lane-a .ensures .0)) (is-b _ (p .is-a) (p .is-b) (f .before .before .lane-b .ensures .0)) (f .before .row-residences .ensures)
 
 pub timely-plan-spec : {M : Type 1} → statement M
 timely-plan-spec =
@@ -122,7 +122,7 @@ timely-plan-spec =
     (tie.spec
     lane-a-requires
     lane-b-requires
-    row-bounds-requires
+    row-residences-requires
     judged-requires
     refused-requires
     returns

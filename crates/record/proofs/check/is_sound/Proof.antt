@@ -5,7 +5,7 @@ use Rattle.table.specs.Rows.{Contents, contents}
 use Rattle.table.specs.declared.Verdict.the-variants.{Accepted}
 use Rattle.table.specs.declared.Class.the-variants.{A, B}
 use Rattle.planner.specs.declared.Plan.{Plan}
-use Rattle.planner.specs.Bound.{bounds}
+use Rattle.planner.specs.Bound.{residences}
 use Rattle.table.specs.Checks.{accepted, outcomeOf}
 use Rattle.planner.specs.Opening.{opening}
 use Rattle.planner.specs.Plan.{laneOf, Planned}
@@ -26,8 +26,8 @@ module _ (t : Contents) (r : Plan) (e : Planned t r) (a : r .verdict ≡ Accepte
   lane-b : r .b ≡ laneOf B t
   lane-b = e .b ∙ rw open-accepts refl
 
-  limits : r .bounds ≡ bounds t
-  limits = e .bounds ∙ rw open-accepts refl
+  limits : r .residences ≡ residences t
+  limits = e .residences ∙ rw open-accepts refl
 
 plan-requires : tie.Need-plan-requires
 plan-requires c κs = search needs

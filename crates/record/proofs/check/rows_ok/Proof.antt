@@ -54,15 +54,15 @@ returns c =
     let p = s .args .p in
     late (s .args .limits) p (port-places p _ (s .good .0)) (s .pre .0) (s .pre .1 .0) (s .pre .1 .1) (fails (c .before .instants-ok .ensures) (c .if1 .taken))
 
-no-frame-requires : tie.Need-no-frame-requires
-no-frame-requires c κs = search needs
+no-row-frame-requires : tie.Need-no-row-frame-requires
+no-row-frame-requires c κs = search needs
 
 returns-2 : tie.Need-returns-2
 returns-2 c =
     let d = c .before .before in
     let s = d .before .before .before in
     let p = s .args .p in
-    by-frames (s .args .limits) p (port-places p _ (s .good .0)) (s .pre .0) (s .pre .1 .0) (s .pre .1 .1) (holds (d .before .instants-ok .ensures) (d .if1 .left)) (quiet (p .wire) (p .a) (p .b) (p .table) (s .args .limits) (p .last) (sym (c .before .no-frame .ensures) ∙ c .if2 .taken))
+    by-frames (s .args .limits) p (port-places p _ (s .good .0)) (s .pre .0) (s .pre .1 .0) (s .pre .1 .1) (holds (d .before .instants-ok .ensures) (d .if1 .left)) (quiet (p .wire) (p .a) (p .b) (p .table) (s .pre .0) (s .args .limits) (p .last) (sym (c .before .no-row-frame .ensures) ∙ c .if2 .taken))
 
 held-ok-requires : tie.Need-held-ok-requires
 held-ok-requires c κs = search needs
@@ -76,4 +76,4 @@ returns-3 c =
     by-frames (s .args .limits) p places (s .pre .0) (s .pre .1 .0) (s .pre .1 .1) (holds (d .before .instants-ok .ensures) (d .if1 .left)) (placed (s .args .limits) p places (s .pre .0) (s .pre .1 .0) (s .pre .1 .1) (c .held-ok .ensures))
 
 pub rows-ok-spec : {M : Type 1} → statement M
-rows-ok-spec = tie.close (tie.spec instants-ok-requires returns no-frame-requires returns-2 held-ok-requires returns-3)
+rows-ok-spec = tie.close (tie.spec instants-ok-requires returns no-row-frame-requires returns-2 held-ok-requires returns-3)

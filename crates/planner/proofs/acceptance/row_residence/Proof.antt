@@ -1,10 +1,10 @@
--- `planner::acceptance::row_bound` meets its contract: it is the definition, and no number on the way is large.
+-- `planner::acceptance::row_residence` meets its contract: it is the definition, and no number on the way is large.
 use Prim.Native.Nat.{ℕ, _+_, _-_, _*_, _≤_}
 use native.Mathlib.Nat.{mul-le-mul, div-le-self}
 use native.Mathlib.Omega.{arith}
 use borrow.Author.Needs.{needs}
-use Rattle.planner.proofs.acceptance.row_bound.Statement.{statement}
-use Rattle.planner.proofs.acceptance.row_bound.Tie as tie
+use Rattle.planner.proofs.acceptance.row_residence.Statement.{statement}
+use Rattle.planner.proofs.acceptance.row_residence.Tie as tie
 
 product : (i : ℕ) {l : ℕ} → l ≤ 65577 → (1000000 - i) * l ≤ 65577000000
 product i h = mul-le-mul {n₁ = 1000000 - i} {n₂ = 1000000} (omega arith) h
@@ -39,8 +39,8 @@ add-result-3 c =
 returns : tie.Need-returns
 returns c = search needs
 
-pub row-bound-spec : {M : Type 1} → statement M
-row-bound-spec =
+pub row-residence-spec : {M : Type 1} → statement M
+row-residence-spec =
     tie.close
     (tie.spec
     sub-send
