@@ -2,36 +2,36 @@
 use Prim.Native.Nat.{ℕ, suc, _*_, _≤_}
 use mathlib.Core.Bool.{Bool, true, false, cond, _&&_, false≢true}
 use mathlib.Core.List.{List, [], _∷_}
-use mathlib.Core.Path.{_≡_, refl, sym, _∙_, ap}
+use mathlib.Core.Path.{_≡_, refl, sym, ap}
 use native.Mathlib.Nat.{mul-le-mul}
 use native.Mathlib.Omega.{arith}
 use lib.IntN.{ℤ, pos, negsuc}
 use lib.Dec.{leb}
 use lib.ListN.{length}
-use borrow.Author.Tests.{le-leb, leb-true, leb-false, eqb-true}
+use borrow.Author.Tests.{le-leb, leb-true, eqb-true}
 use Rattle.table.specs.declared.Class.{Class}
 use Rattle.table.specs.declared.Class.the-variants.{A, B}
-use Rattle.table.specs.Limits.{D, mostRows, mostSlope, mostSize, leastSize}
-use Rattle.table.specs.Rows.{contents}
+use Rattle.table.specs.Limits.{D, mostSlope, mostSize, leastSize}
 use Rattle.table.proofs.Laws as table
 use Rattle.planner.specs.Sums.{idle, send, largest, bestSize}
 use Rattle.planner.specs.Bound.{blocking}
 use Rattle.planner.proofs.Laws as law
 use Rattle.machine.specs.declared.Frame.{Frame}
-use Rattle.machine.specs.declared.Queue.{Queue}
-use Rattle.machine.specs.declared.Port.{Port}
-use Rattle.machine.specs.Limits.{lastClock, mostSteps, classPlaces, bestPlaces}
-use Rattle.machine.specs.State.{State, credit, queue, waiting, view}
+use Rattle.machine.specs.Limits.{mostSteps, bestPlaces}
+use Rattle.machine.specs.State.{State, credit, queue}
 use Rattle.machine.specs.Time.{shaped, unshaped, owner, progress}
-use Rattle.machine.specs.Record.{allOf, between, namesRow, isBest, rowIn, sizeWithin, rowSize, clockSound, creditSound, bestSound, namesSound, queuesSound, sizesSound, sound}
-use Rattle.machine.proofs.FromSound.{Clauses, clauses, is-accepted}
-use Rattle.machine.proofs.Places.{Places, waiting-length, too-many}
+use Rattle.machine.specs.Record.{allOf, between, namesRow, isBest, rowIn, sizeWithin, rowSize, creditSound, bestSound, namesSound, queuesSound, sizesSound}
+use Rattle.machine.specs.Effects.{Room}
+use Rattle.machine.proofs.FromSound.{Clauses, is-accepted, in-class-places}
+use Rattle.bytetime.specs.declared.Sender.{Sender}
+use Rattle.bytetime.specs.declared.Sender.the-variants.{Nobody, ClassA, ClassB, BestEffort}
 use Rattle.bytetime.specs.declared.Hot.{Hot}
 use Rattle.bytetime.specs.declared.Fixed.{Fixed}
 use Rattle.bytetime.specs.declared.Ran.{Ran}
 use Rattle.bytetime.specs.Bytes.{runHot, reach, nearHot, stepsOf}
 use Rattle.bytetime.specs.Ports.{hotOf, fixedOf, HeadFits, Fits, SameRun}
 use Rattle.bytetime.proofs.Tied.{as-machine}
+use Rattle.advances.specs.Steps.{leftBy}
 
 module _ (s : State) (c : Clauses s) where
   -- ---- the heads of the queues
@@ -112,6 +112,15 @@ module _ (s : State) (c : Clauses s) where
       let z : runHot (stepsOf n (hotOf s) (fixedOf s)) (hotOf s) (fixedOf s) ≡ runHot n (hotOf s) (fixedOf s) = rw (all-steps n few) refl in
       rw (er, eh, ex, z) (as-machine s fits n)
 
+  -- and there is room for the queue whose head goes out
+  pub room-for : (m : Bool) (w : Sender) → Room (leftBy m w) s
+  unfolding bestSound
+  room-for false w = tt
+  room-for true Nobody = tt
+  room-for true ClassA = in-class-places s c A
+  room-for true ClassB = in-class-places s c B
+  room-for true BestEffort = leb-true (length (s .best)) bestPlaces (c .best)
+
 pub steps-most : (n : ℕ) (h : Hot) (x : Fixed) → stepsOf n h x ≤ n
 unfolding stepsOf
 steps-most n h x = by-test (leb n mostSteps && nearHot h x)
@@ -119,35 +128,3 @@ steps-most n h x = by-test (leb n mostSteps && nearHot h x)
     by-test : (b : Bool) → cond b n 0 ≤ n
     by-test true = omega arith
     by-test false = omega arith
-
--- ---- by the record's own parts
-module _ (p : Port) (places : Places p) (ok : sound (view p) ≡ true) where
-  c : Clauses (view p)
-  c = clauses (view p) ok
-
-  few : (q : Queue) → length (q .frames) ≡ classPlaces → allOf (rowSize (contents (p .table))) (waiting (q .count) (q .frames)) ≡ true → q .count ≤ classPlaces
-  few q long e = by-test (leb (q .count) classPlaces) refl
-    where
-      by-test : (b : Bool) → leb (q .count) classPlaces ≡ b → q .count ≤ classPlaces
-      by-test true z = leb-true _ _ z
-      by-test false z = absurd (false≢true (too-many (rowSize (contents (p .table))) (q .count) (q .frames) refl (rw long (leb-false _ _ z)) ∙ e))
-
-  pub few-a : p .a .count ≤ classPlaces
-  unfolding view
-  few-a = few (p .a) (places .a) (sizes (view p) c A)
-
-  pub few-b : p .b .count ≤ classPlaces
-  unfolding view
-  few-b = few (p .b) (places .b) (sizes (view p) c B)
-
-  pub few-best : p .best .count ≤ bestPlaces
-  unfolding view bestSound
-  few-best = rw (waiting-length (p .best .count) (p .best .frames)) at (leb-true (length (waiting (p .best .count) (p .best .frames))) bestPlaces (c .best))
-
-  pub few-rows : p .table .count ≤ mostRows
-  unfolding view
-  few-rows = rw (table.rows-length (p .table)) at (is-accepted (view p) c .ranges .most)
-
-  pub clock-most : p .clock ≤ lastClock
-  unfolding view clockSound
-  clock-most = leb-true (p .clock) lastClock (c .clock)

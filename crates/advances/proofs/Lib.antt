@@ -1,5 +1,4 @@
 -- Laws that belong to no one function.
-mod Shift
 mod Waiting
 mod Begins
 mod Judged

@@ -1,20 +1,22 @@
 -- What the private functions of the advance promise each other. No public promise cites this file.
-use Prim.Native.Nat.{ℕ, _+_}
-use mathlib.Core.Bool.{false, cond}
-use mathlib.Core.Path.{_≡_}
+use Prim.Native.Nat.{ℕ}
+use mathlib.Core.Bool.{Bool, true, false, cond}
 use lib.Dec.{leb, eqb}
 use Rattle.machine.specs.declared.Frame.{Frame}
 use Rattle.machine.specs.declared.Denial.{Denial}
-use Rattle.machine.specs.declared.Advance.the-variants.{Refused}
+use Rattle.machine.specs.declared.Ended.the-variants.{Nothing}
+use Rattle.machine.specs.declared.Advance.{Advance}
+use Rattle.machine.specs.declared.Advance.the-variants as advances
 use Rattle.machine.specs.declared.Port.{Port}
-use Rattle.machine.specs.declared.AfterAdvance.{AfterAdvance}
-use Rattle.machine.specs.State.{noFrame, view}
-use Rattle.machine.specs.Time.{progress}
-use Rattle.machine.specs.Calls.{passed, advanceAnswer, Became}
+use Rattle.machine.specs.declared.Reply.{Reply}
+use Rattle.machine.specs.declared.Reply.the-variants as replies
+use Rattle.machine.specs.declared.Change.{Change}
+use Rattle.machine.specs.declared.Change.the-variants.{None, LeftA, LeftB, LeftBest}
+use Rattle.machine.specs.declared.Effect.{Effect}
+use Rattle.machine.specs.State.{noFrame}
 use Rattle.bytetime.specs.declared.Sender.{Sender}
+use Rattle.bytetime.specs.declared.Sender.the-variants.{Nobody, ClassA, ClassB, BestEffort}
 use Rattle.bytetime.specs.declared.Hot.{Hot}
-use Rattle.bytetime.specs.declared.Ran.{Ran}
-use Rattle.bytetime.specs.Ports.{wireBy}
 
 -- A queue's head, by how many frames wait and the frame in the first place.
 abbrev pub headBy : ℕ → Frame → Frame
@@ -34,26 +36,20 @@ hotWith p w left =
       waitsbest = leb 1 (p .best .count);
     }
 
--- A record after byte-times on its numbers, with the frame on the wire, and each queue as it was.
-abbrev pub settledBy : Port → Ran → Frame → Port
-settledBy p ran f =
-    record {
-      table = p .table;
-      clock = p .clock + ran .passed;
-      credita = ran .hot .credita;
-      creditb = ran .hot .creditb;
-      a = p .a;
-      b = p .b;
-      best = p .best;
-      last = p .last;
-      wire = wireBy (ran .hot .sender) f (ran .hot .left);
-    }
+-- The queue whose head went out, by whether one has and whose it was.
+abbrev pub leftBy : Bool → Sender → Change
+leftBy false w = None
+leftBy true Nobody = None
+leftBy true ClassA = LeftA
+leftBy true ClassB = LeftB
+leftBy true BestEffort = LeftBest
 
--- A refused advance: the record as it was.
-abbrev pub stay : Port → Denial → AfterAdvance
-stay p d = record { answer = Refused d; port = p }
+-- A refused advance changes nothing.
+abbrev pub stay : Port → Denial → Effect
+stay p d = record { reply = replies.Refused d; clock = p .clock; credita = p .credita; creditb = p .creditb; wire = p .wire; change = None }
 
--- An advance of a sound record that is not refused: the machine's progress.
-pub record Progressed (p : Port) (n : ℕ) (r : AfterAdvance) : Type 0 where
-  pub answer : advanceAnswer (r .answer) ≡ passed (progress n (view p) .passed) (progress n (view p) .ended)
-  pub port : Became (progress n (view p) .state) p (r .port)
+-- The answer of an advance, by its reply. (An advance does not reply that it is taken.)
+abbrev pub advanceOf : Reply → Advance
+advanceOf replies.Taken = advances.Passed 0 Nothing
+advanceOf (replies.Passed n e) = advances.Passed n e
+advanceOf (replies.Refused d) = advances.Refused d

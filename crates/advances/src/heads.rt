@@ -1,10 +1,7 @@
-// The head of a queue, and the frames behind it.
+// The head of a queue.
 ghost use mathlib.Core.Path.{_≡_};
-ghost use Prim.Native.Nat.{_≤_};
 ghost use lib.ListN.{getD};
-ghost use Rattle.machine.specs.Limits.{classPlaces, bestPlaces};
-ghost use Rattle.machine.specs.State.{noFrame, waiting, zeroFrame};
-ghost use Rattle.machine.specs.Time.{behindHead};
+ghost use Rattle.machine.specs.State.{noFrame, zeroFrame};
 ghost use Rattle.advances.specs.Steps.{headBy};
 use machine::BestQueue;
 use machine::Frame;
@@ -40,44 +37,4 @@ pub fn best_head(q: BestQueue) -> Frame
         return no_frame();
     }
     q.frames[0]
-}
-
-// The head has left a class's queue: those behind it move up.
-pub fn shifted(q: Queue) -> Queue
-    requires { ⌜ q .count ≤ classPlaces ⌝ }
-    ensures { λ r. ⌜ waiting (r .count) (r .frames) ≡ behindHead (waiting (q .count) (q .frames)) ⌝ }
-{
-    let n = q.count;
-    if n == 0 {
-        return q;
-    }
-    let count = n - 1;
-    let mut frames = q.frames;
-    let mut i: usize = 0;
-    while i < count {
-        let f = q.frames[i + 1];
-        frames[i] = f;
-        i += 1;
-    }
-    Queue { count, frames }
-}
-
-// The head has left the best-effort queue.
-pub fn best_shifted(q: BestQueue) -> BestQueue
-    requires { ⌜ q .count ≤ bestPlaces ⌝ }
-    ensures { λ r. ⌜ waiting (r .count) (r .frames) ≡ behindHead (waiting (q .count) (q .frames)) ⌝ }
-{
-    let n = q.count;
-    if n == 0 {
-        return q;
-    }
-    let count = n - 1;
-    let mut frames = q.frames;
-    let mut i: usize = 0;
-    while i < count {
-        let f = q.frames[i + 1];
-        frames[i] = f;
-        i += 1;
-    }
-    BestQueue { count, frames }
 }

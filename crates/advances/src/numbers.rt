@@ -1,7 +1,5 @@
 // The few numbers of a port that byte-times read and change.
 ghost use mathlib.Core.Path.{_≡_};
-ghost use Prim.Native.Nat.{_≤_};
-ghost use Rattle.table.specs.Limits.{mostRows};
 ghost use Rattle.table.specs.Rows.{contents};
 ghost use Rattle.machine.specs.State.{view};
 ghost use Rattle.machine.specs.Time.{shaped, owner};
@@ -16,6 +14,7 @@ use machine::Frame;
 use machine::Port;
 use machine::Wire;
 use table::Class;
+use table::ROWS;
 use table::Table;
 
 // What byte-times leave alone.
@@ -46,13 +45,15 @@ fn class_sender(class: Class) -> Sender
     }
 }
 
-// Whose a frame is: of its row's class, or best effort.
+// Whose a frame is: of its row's class, or best effort. (A row without a place, which no sound record has, is one of zeros, of class A.)
 fn sender(t: Table, f: Frame) -> Sender
-    requires { ⌜ t .count ≤ mostRows ⌝ }
     ensures { λ r. ⌜ r ≡ senderBy (owner (contents t) f) ⌝ }
 {
     let k = f.source as usize;
     if k < t.count {
+        if ROWS <= k {
+            return Sender::ClassA;
+        }
         let row = t.rows[k];
         let class = row.class;
         return class_sender(class);
@@ -77,7 +78,6 @@ fn hot_with(p: Port, sender: Sender, left: u32) -> Hot
 
 // What byte-times change.
 pub fn hot(p: Port) -> Hot
-    requires { ⌜ p .table .count ≤ mostRows ⌝ }
     ensures { λ r. ⌜ r ≡ hotOf (view p) ⌝ }
 {
     let w = p.wire;

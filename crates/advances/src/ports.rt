@@ -1,19 +1,17 @@
-// The port that byte-times leave.
+// What byte-times leave: the frame on the wire, the wire, the queue whose head went out, and the frame that was reported.
 ghost use mathlib.Core.Path.{_≡_};
 ghost use mathlib.Core.Bool.{cond};
-ghost use Prim.Native.Nat.{_+_, _≤_};
 ghost use Rattle.machine.specs.declared.Ended.{Ended};
-ghost use Rattle.machine.specs.Limits.{lastClock};
 ghost use Rattle.machine.specs.State.{view};
 ghost use Rattle.bytetime.specs.Ports.{headFor, frameOn, frameOf, wireBy};
-ghost use Rattle.advances.specs.Steps.{settledBy};
+ghost use Rattle.advances.specs.Steps.{leftBy};
 use crate::heads::best_head;
 use crate::heads::head;
 use crate::heads::no_frame;
 use bytetime::Hot;
-use bytetime::Ran;
 use bytetime::Sender;
 use bytetime::senders::is_nobody;
+use machine::Change;
 use machine::Ended;
 use machine::Frame;
 use machine::Port;
@@ -53,40 +51,13 @@ pub fn frame_of(p: Port, h: Hot) -> Frame
 }
 
 // The wire: free if nobody has it.
-fn wire_now(who: Sender, f: Frame, left: u32) -> Wire
+pub fn wire_now(who: Sender, f: Frame, left: u32) -> Wire
     ensures { λ r. ⌜ r ≡ wireBy who f left ⌝ }
 {
     if is_nobody(who) {
         return Wire::Free;
     }
     Wire::Sending(f, left)
-}
-
-// The record after byte-times on its numbers, with the frame that is on the wire; every frame that waited still waits.
-pub fn settled(p: Port, ran: Ran, f: Frame) -> Port
-    requires { ⌜ p .clock + ran .passed ≤ lastClock ⌝ }
-    ensures { λ r. ⌜ r ≡ settledBy p ran f ⌝ }
-{
-    let clock = p.clock + ran.passed;
-    let h = ran.hot;
-    let who = h.sender;
-    let wire = wire_now(who, f, h.left);
-    let table = p.table;
-    let a = p.a;
-    let b = p.b;
-    let best = p.best;
-    let last = p.last;
-    Port {
-        table,
-        clock,
-        credita: h.credita,
-        creditb: h.creditb,
-        a,
-        b,
-        best,
-        last,
-        wire,
-    }
 }
 
 // The frame that was reported ended, if one was.
@@ -97,4 +68,19 @@ pub fn ended(has: bool, f: Frame) -> Ended
         return Ended::Reported(f);
     }
     Ended::Nothing
+}
+
+// The queue whose head went out, if one has.
+pub fn left(moved: bool, who: Sender) -> Change
+    ensures { λ r. ⌜ r ≡ leftBy moved who ⌝ }
+{
+    if !moved {
+        return Change::None;
+    }
+    match who {
+        Sender::Nobody => Change::None,
+        Sender::ClassA => Change::LeftA,
+        Sender::ClassB => Change::LeftB,
+        Sender::BestEffort => Change::LeftBest,
+    }
 }

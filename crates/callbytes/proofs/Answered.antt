@@ -9,12 +9,11 @@ use Rattle.machine.specs.declared.Frame.{Frame}
 use Rattle.machine.specs.declared.Denial.{Denial}
 use Rattle.machine.specs.declared.Ended.{Ended}
 use Rattle.machine.specs.declared.Ended.the-variants.{Reported, Nothing}
-use Rattle.machine.specs.declared.Offer.{Offer}
-use Rattle.machine.specs.declared.Offer.the-variants as offers
-use Rattle.machine.specs.declared.Advance.{Advance}
-use Rattle.machine.specs.declared.Advance.the-variants as advances
+use Rattle.machine.specs.declared.Reply.{Reply}
+use Rattle.machine.specs.declared.Reply.the-variants.{Taken, Passed, Refused}
 use Rattle.machine.specs.Limits.{noMark}
-use Rattle.machine.specs.Calls.{Answer, taken, passed, denied, numberOf, offerAnswer, advanceAnswer}
+use Rattle.machine.specs.Calls.{Answer, taken, passed, denied, numberOf}
+use Rattle.machine.specs.Effects.{replyAnswer}
 use Rattle.callbytes.specs.declared.Asked.{Asked}
 use Rattle.callbytes.specs.declared.Asked.the-variants.{Unreadable}
 use Rattle.words.specs.Words.{flat, wordBytes, wordAt, put}
@@ -32,11 +31,8 @@ module _ (s : List ℕ) where
   call-named h e f g i = i ∙ rw (e, f, g, eq-eqb (length s) callSize h) refl
 
 -- ---- an answer
-pub offer-flag : {x y : Offer} → x ≡ y → isDenied (offerAnswer y) ≡ isDenied (offerAnswer x)
-offer-flag e = rw e refl
-
-pub advance-flag : {x y : Advance} → x ≡ y → isDenied (advanceAnswer y) ≡ isDenied (advanceAnswer x)
-advance-flag e = rw e refl
+pub reply-flag : {x y : Reply} → x ≡ y → isDenied (replyAnswer y) ≡ isDenied (replyAnswer x)
+reply-flag e = rw e refl
 
 pub answer-length : (a : Answer) → length (answerBytes a) ≡ answerSize
 unfolding answerBytes flat wordBytes
@@ -82,13 +78,9 @@ module _ (s : List ℕ) (n a b c d : ℕ) where
       in-front _ s (rw (words-length n a b c d) h) (rw (words-length n a b c d) all)
 
 module _ (s : List ℕ) {t : List ℕ} where
-  pub offer-taken : {x : Offer} → x ≡ offers.Taken → t ≡ fronted (flat wordBytes (0 ∷ 0 ∷ noMark ∷ 0 ∷ 0 ∷ [])) s → t ≡ fronted (answerBytes (offerAnswer x)) s
+  pub reply-taken : {x : Reply} → x ≡ Taken → t ≡ fronted (flat wordBytes (0 ∷ 0 ∷ noMark ∷ 0 ∷ 0 ∷ [])) s → t ≡ fronted (answerBytes (replyAnswer x)) s
   unfolding answerBytes
-  offer-taken e h = rw e h
-
-  pub offer-refused : (n : ℕ) {x : Offer} {d : Denial} → x ≡ offers.Refused d → n ≡ numberOf d → t ≡ fronted (flat wordBytes (n ∷ 0 ∷ noMark ∷ 0 ∷ 0 ∷ [])) s → t ≡ fronted (answerBytes (offerAnswer x)) s
-  unfolding answerBytes
-  offer-refused n e f h = rw (e, ← f) h
+  reply-taken e h = rw e h
 
   pub some-ended : (n : ℕ) {x : Ended} {f : Frame} → x ≡ Reported f → t ≡ fronted (flat wordBytes (0 ∷ n ∷ f .source ∷ f .size ∷ f .taken ∷ [])) s → t ≡ fronted (answerBytes (passed n x)) s
   unfolding answerBytes
@@ -98,9 +90,9 @@ module _ (s : List ℕ) {t : List ℕ} where
   unfolding answerBytes
   none-ended n e h = rw e h
 
-  pub advance-passed : {x : Advance} {n : ℕ} {e : Ended} → x ≡ advances.Passed n e → t ≡ fronted (answerBytes (passed n e)) s → t ≡ fronted (answerBytes (advanceAnswer x)) s
-  advance-passed e h = rw e h
+  pub reply-passed : {x : Reply} {n : ℕ} {e : Ended} → x ≡ Passed n e → t ≡ fronted (answerBytes (passed n e)) s → t ≡ fronted (answerBytes (replyAnswer x)) s
+  reply-passed e h = rw e h
 
-  pub advance-refused : (n : ℕ) {x : Advance} {d : Denial} → x ≡ advances.Refused d → n ≡ numberOf d → t ≡ fronted (flat wordBytes (n ∷ 0 ∷ noMark ∷ 0 ∷ 0 ∷ [])) s → t ≡ fronted (answerBytes (advanceAnswer x)) s
+  pub reply-refused : (n : ℕ) {x : Reply} {d : Denial} → x ≡ Refused d → n ≡ numberOf d → t ≡ fronted (flat wordBytes (n ∷ 0 ∷ noMark ∷ 0 ∷ 0 ∷ [])) s → t ≡ fronted (answerBytes (replyAnswer x)) s
   unfolding answerBytes
-  advance-refused n e f h = rw (e, ← f) h
+  reply-refused n e f h = rw (e, ← f) h

@@ -1,13 +1,13 @@
 // An answer into bytes.
 ghost use mathlib.Core.Path.{_≡_};
 ghost use mathlib.Core.List.{[], _∷_};
-ghost use Rattle.machine.specs.Calls.{offerAnswer, advanceAnswer, passed};
+ghost use Rattle.machine.specs.Calls.{passed};
+ghost use Rattle.machine.specs.Effects.{replyAnswer};
 ghost use Rattle.words.specs.Words.{flat, wordBytes};
 ghost use Rattle.callbytes.specs.Calls.{fronted, answerBytes, isDenied};
-use machine::Advance;
 use machine::Ended;
 use machine::NO_MARK;
-use machine::Offer;
+use machine::Reply;
 use machine::numbers::number;
 use words::words::put_word;
 
@@ -28,23 +28,6 @@ pub fn put_answer(out: &mut [u8], number: u64, passed: u64, source: u64, size: u
     put_word(out, 4, taken);
 }
 
-// The answer of an offer, put as its words are. Whether it was refused.
-pub fn write_offer(out: &mut [u8], answer: Offer) -> bool
-    ensures refused { λ r. ⌜ r ≡ isDenied (offerAnswer answer) ⌝ }
-    ensures { λ _. ⌜ now (out .exit) ≡ fronted (answerBytes (offerAnswer answer)) (now (out .entry)) ⌝ }
-{
-    match answer {
-        Offer::Taken => {
-            put_answer(out, 0, 0, NO_MARK as u64, 0, 0);
-            false
-        }
-        Offer::Refused(d) => {
-            put_answer(out, number(d), 0, NO_MARK as u64, 0, 0);
-            true
-        }
-    }
-}
-
 fn write_passed(out: &mut [u8], n: u64, ended: Ended)
     ensures { λ _. ⌜ now (out .exit) ≡ fronted (answerBytes (passed n ended)) (now (out .entry)) ⌝ }
 {
@@ -55,17 +38,21 @@ fn write_passed(out: &mut [u8], n: u64, ended: Ended)
     }
 }
 
-// The answer of an advance, put as its words are. Whether it was refused.
-pub fn write_advance(out: &mut [u8], answer: Advance) -> bool
-    ensures refused { λ r. ⌜ r ≡ isDenied (advanceAnswer answer) ⌝ }
-    ensures { λ _. ⌜ now (out .exit) ≡ fronted (answerBytes (advanceAnswer answer)) (now (out .entry)) ⌝ }
+// The answer of a call, put as its words are. Whether it was refused.
+pub fn write_reply(out: &mut [u8], reply: Reply) -> bool
+    ensures refused { λ r. ⌜ r ≡ isDenied (replyAnswer reply) ⌝ }
+    ensures { λ _. ⌜ now (out .exit) ≡ fronted (answerBytes (replyAnswer reply)) (now (out .entry)) ⌝ }
 {
-    match answer {
-        Advance::Passed(n, ended) => {
+    match reply {
+        Reply::Taken => {
+            put_answer(out, 0, 0, NO_MARK as u64, 0, 0);
+            false
+        }
+        Reply::Passed(n, ended) => {
             write_passed(out, n, ended);
             false
         }
-        Advance::Refused(d) => {
+        Reply::Refused(d) => {
             put_answer(out, number(d), 0, NO_MARK as u64, 0, 0);
             true
         }

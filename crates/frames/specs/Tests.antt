@@ -1,7 +1,7 @@
 -- The tests of a record's frames, each in one pass over a frame's values.
 use Prim.Native.Nat.{ℕ, _-_}
 use mathlib.Core.Bool.{Bool, cond, _&&_}
-use mathlib.Core.List.{List}
+use mathlib.Core.List.{List, map}
 use lib.Dec.{leb, ltb, eqb}
 use lib.ListN.{getD}
 use Rattle.table.specs.declared.Class.{Class}
@@ -9,9 +9,15 @@ use Rattle.table.specs.declared.Row.{Row}
 use Rattle.table.specs.Limits.{leastSize}
 use Rattle.table.specs.Wire.{sizeOf}
 use Rattle.table.specs.Rows.{Contents, rowAt, inUse}
+use Rattle.planner.specs.declared.Lane.{Lane}
 use Rattle.planner.specs.Sums.{inClass, bestSize}
+use Rattle.planner.specs.Plan.{residenceBy}
 use Rattle.machine.specs.declared.Frame.{Frame}
 use Rattle.machine.specs.Limits.{bestMark}
+
+-- The limit of age of a frame of each row, by the numbers of its class: its residence.
+abbrev pub limitsBy : Lane → Lane → List Row → List ℕ
+limitsBy a b rows = map (residenceBy a b) rows
 
 -- A row's frame by its row and a limit of age: of the class, of a fitting size, not taken after the clock, younger than the limit.
 unfoldable pub rowTest : Class → Frame → Row → ℕ → ℕ → Bool

@@ -1,16 +1,16 @@
-// The tests of a record's frames, of any content: frames that wait in a queue, and the frame on the wire.
+// The tests of a record's frames, of any content: a row's frame, the best-effort frames that wait, and the frame on the wire.
 ghost use mathlib.Core.Path.{_≡_};
 ghost use Rattle.table.specs.Rows.{contents};
 ghost use Rattle.machine.specs.State.{waiting};
 ghost use Rattle.machine.specs.Record.{allOf, onSending};
-ghost use Rattle.frames.specs.Tests.{rowTest, frameTest, bestTest, sendingTest};
+ghost use Rattle.frames.specs.Tests.{limitsBy, rowTest, frameTest, bestTest, sendingTest};
 use machine::BEST_MARK;
 use machine::BEST_PLACES;
 use machine::BestQueue;
 use machine::Frame;
-use machine::Queue;
 use machine::Wire;
-use table::CLASS_PLACES;
+use planner::Lane;
+use planner::acceptance::residence;
 use table::Class;
 use table::ROWS;
 use table::Row;
@@ -20,7 +20,8 @@ use table::wire::LEAST_SIZE;
 use table::wire::size;
 use table::wire::wire_size;
 
-fn row_frame_ok(class: Class, f: Frame, row: Row, limit: u64, clock: u64) -> bool
+// A row's frame by its row and a limit of age.
+pub fn row_frame_ok(class: Class, f: Frame, row: Row, limit: u64, clock: u64) -> bool
     ensures { λ r. ⌜ r ≡ rowTest class f row limit clock ⌝ }
 {
     let of = row.class;
@@ -54,50 +55,6 @@ fn best_frame_ok(f: Frame, most: u64, clock: u64) -> bool
     f.taken <= clock
 }
 
-// The frame on the wire, where it is a row's.
-fn frame_ok(class: Class, f: Frame, t: Table, limits: [u64; ROWS], clock: u64) -> bool
-    ensures { λ r. ⌜ r ≡ frameTest class (contents t) limits clock f ⌝ }
-{
-    let k = f.source as usize;
-    if t.count <= k {
-        return false;
-    }
-    if ROWS <= k {
-        return false;
-    }
-    let row = t.rows[k];
-    let limit = limits[k];
-    row_frame_ok(class, f, row, limit, clock)
-}
-
-// All frames that wait in a class's queue. (`frame_ok` for each would copy the table each time.)
-pub fn queue_ok(class: Class, q: Queue, t: Table, limits: [u64; ROWS], clock: u64) -> bool
-    ensures { λ r. ⌜ r ≡ allOf (frameTest class (contents t) limits clock) (waiting (q .count) (q .frames)) ⌝ }
-{
-    let n = q.count;
-    if CLASS_PLACES < n {
-        return false;
-    }
-    let mut i: usize = 0;
-    while i < n {
-        let f = q.frames[i];
-        let k = f.source as usize;
-        if t.count <= k {
-            return false;
-        }
-        if ROWS <= k {
-            return false;
-        }
-        let row = t.rows[k];
-        let limit = limits[k];
-        if !row_frame_ok(class, f, row, limit, clock) {
-            return false;
-        }
-        i += 1;
-    }
-    true
-}
-
 // All best-effort frames that wait.
 pub fn best_ok(q: BestQueue, most: u64, clock: u64) -> bool
     ensures { λ r. ⌜ r ≡ allOf (bestTest most clock) (waiting (q .count) (q .frames)) ⌝ }
@@ -118,8 +75,8 @@ pub fn best_ok(q: BestQueue, most: u64, clock: u64) -> bool
 }
 
 // The frame on the wire: a row's is judged by its row's class.
-fn sending_ok(f: Frame, left: u32, t: Table, limits: [u64; ROWS], clock: u64) -> bool
-    ensures { λ r. ⌜ r ≡ sendingTest (contents t) limits clock f left ⌝ }
+fn sending_ok(f: Frame, left: u32, t: Table, a: Lane, b: Lane, clock: u64) -> bool
+    ensures { λ r. ⌜ r ≡ sendingTest (contents t) (limitsBy a b (t .rows)) clock f left ⌝ }
 {
     if left < 1 {
         return false;
@@ -134,17 +91,17 @@ fn sending_ok(f: Frame, left: u32, t: Table, limits: [u64; ROWS], clock: u64) ->
         }
         let row = t.rows[k];
         let of = row.class;
-        return frame_ok(of, f, t, limits, clock);
+        return row_frame_ok(of, f, row, residence(row, a, b), clock);
     }
     best_frame_ok(f, wire_size(t.header.payload), clock)
 }
 
 // What is on the wire.
-pub fn wire_ok(w: Wire, t: Table, limits: [u64; ROWS], clock: u64) -> bool
-    ensures { λ r. ⌜ r ≡ onSending (sendingTest (contents t) limits clock) w ⌝ }
+pub fn wire_ok(w: Wire, t: Table, a: Lane, b: Lane, clock: u64) -> bool
+    ensures { λ r. ⌜ r ≡ onSending (sendingTest (contents t) (limitsBy a b (t .rows)) clock) w ⌝ }
 {
     match w {
         Wire::Free => true,
-        Wire::Sending(f, left) => sending_ok(f, left, t, limits, clock),
+        Wire::Sending(f, left) => sending_ok(f, left, t, a, b, clock),
     }
 }

@@ -26,3 +26,4 @@ pub mod Placing
 pub mod EveryList
 pub mod Answers
 pub mod Places
+pub mod Effects

@@ -79,6 +79,9 @@ too-many ok n xs e h =
 pub instants-few : (n : ℕ) (last : List Last) → n ≤ length last → instantsOf n last ≡ map instantOf (take n last)
 instants-few n last h = let e : n - length last ≡ 0 = omega arith in rw (e, append-nil) refl
 
+pub instants-length : (n : ℕ) (last : List Last) → length (instantsOf n last) ≡ n
+instants-length n last = rw (length-append, length-map, length-take, length-replicate) (omega arith)
+
 pub instant-at : (last : List Last) (n k : ℕ) → k < n → k < length last → getD (instantsOf n last) k never ≡ instantOf (getD last k zeroLast)
 instant-at last n k h g =
     List·getD-append (map instantOf (take n last)) (replicate (n - length last) never) never k (rw (length-map, length-take) (omega arith)) ∙ List·getD-map instantOf (take n last) k zeroLast ∙ ap instantOf (getD-take n last k zeroLast h)

@@ -4,4 +4,5 @@ pub mod State
 pub mod Time
 pub mod Record
 pub mod Calls
+pub mod Effects
 pub mod Run

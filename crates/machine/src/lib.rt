@@ -109,3 +109,31 @@ pub struct AfterAdvance {
     pub answer: Advance,
     pub port: Port,
 }
+
+// What a call answers: an offer is taken, an advance gives the count passed and the ended frame, or the call is refused.
+pub enum Reply {
+    Taken,
+    Passed(u64, Ended),
+    Refused(Denial),
+}
+
+// The one queue that a call changes, if it does: its head has left it, or a frame has joined it.
+pub enum Change {
+    None,
+    LeftA,
+    LeftB,
+    LeftBest,
+    JoinedA(Frame),
+    JoinedB(Frame),
+    JoinedBest(Frame),
+}
+
+// What a call comes to: its answer, the clock, the credits and the wire afterwards, and the queue that it changes.
+pub struct Effect {
+    pub reply: Reply,
+    pub clock: u64,
+    pub credita: i64,
+    pub creditb: i64,
+    pub wire: Wire,
+    pub change: Change,
+}

@@ -1,27 +1,34 @@
--- What an offer's checks say of a record, what a sound record has for the code, and what an offer then gives.
-use Prim.Native.Nat.{ℕ, zero, suc, _≤_, _<_}
+-- What an offer's checks say of a record, what a sound record has for the code, what an offer then comes to, and what it gives.
+use Prim.Native.Nat.{ℕ, _≤_, _<_}
 use mathlib.Core.Bool.{true, false}
-use mathlib.Core.List.{List, [], _∷_}
-use mathlib.Core.Path.{_≡_, refl, sym, subst}
+use mathlib.Core.Path.{_≡_, refl, _∙_}
 use native.Mathlib.Omega.{arith}
 use borrow.Author.Tests.{lt-ltb, le-ltb, le-leb, lt-leb}
 use lib.ListN.{length, getD}
+use Rattle.table.specs.declared.Class.{Class}
+use Rattle.table.specs.declared.Class.the-variants.{A, B}
 use Rattle.table.specs.Limits.{mostRows}
-use Rattle.table.specs.Wire.{periodOf}
+use Rattle.table.specs.Wire.{wireSize, sizeFor, periodOf}
 use Rattle.table.specs.Rows.{noRow, rowAt, InUse}
-use Rattle.table.specs.Checks.{accepted, refused}
+use Rattle.table.specs.Checks.{Outcome, accepted, refused}
 use Rattle.table.proofs.Laws as table
 use Rattle.machine.specs.declared.Denial.{Denial}
-use Rattle.machine.specs.declared.Offer.the-variants.{Taken}
+use Rattle.machine.specs.declared.Frame.{Frame}
+use Rattle.machine.specs.declared.Offer.{Offer}
 use Rattle.machine.specs.declared.Port.{Port}
-use Rattle.machine.specs.declared.AfterOffer.{AfterOffer}
-use Rattle.machine.specs.Limits.{classPlaces, bestPlaces}
-use Rattle.machine.specs.State.{Instant, never, State, queue, instantOf, instantsOf, view}
-use Rattle.machine.specs.Record.{notAfter, noneAfter, rowsTaken, sound}
-use Rattle.machine.specs.Calls.{Call, offer, offerBest, denied, tooSoon, early, offerCheck, bestCheck, takeRow, takeBest, after, answer, numberOf, offerAnswer, Gives, Became, Offered, OfferedBest}
+use Rattle.machine.specs.declared.Reply.{Reply}
+use Rattle.machine.specs.declared.Reply.the-variants.{Taken, Passed, Refused}
+use Rattle.machine.specs.declared.Change.the-variants.{None, JoinedBest}
+use Rattle.machine.specs.declared.Effect.{Effect}
+use Rattle.machine.specs.Limits.{classPlaces, bestPlaces, bestMark}
+use Rattle.machine.specs.State.{State, queue, instantOf, view}
+use Rattle.machine.specs.Record.{sound}
+use Rattle.machine.specs.Calls.{Call, offer, offerBest, taken, tooSoon, early, offerCheck, bestCheck, rowFrame, joined, takeRow, takeBest, answerBy, answer, numberOf, offerAnswer, Gives}
+use Rattle.machine.specs.Effects.{replyAnswer, carriedOut, HasRow, Room, Comes}
 use Rattle.machine.proofs.FromSound.{clauses, is-accepted, place-left}
-use Rattle.machine.proofs.Places.{Places, zeroLast, waiting-length, instant-at}
-use Rattle.offers.specs.Steps.{refusal}
+use Rattle.machine.proofs.Places.{Places, zeroLast, waiting-length, instants-length, instant-at}
+use Rattle.effects.proofs.Laws.{Carried, carries, refuses}
+use Rattle.offers.specs.Steps.{effectOn, joinedIn, offerOf}
 
 -- ---- the checks in their order, of a row's offer
 module _ (s : State) (k x : ℕ) where
@@ -43,7 +50,7 @@ module _ (s : State) (k x : ℕ) where
       unfolding offerCheck
       too-early h e = rw (ok, table.used (s .table) k in-use, le-leb x (rowAt (s .table) k .payload) h, e) refl
 
-      pub passes : x ≤ rowAt (s .table) k .payload → early s k ≡ false → offerCheck s k x ≡ accepted
+      passes : x ≤ rowAt (s .table) k .payload → early s k ≡ false → offerCheck s k x ≡ accepted
       unfolding offerCheck
       passes h e = rw (ok, table.used (s .table) k in-use, le-leb x (rowAt (s .table) k .payload) h, e) refl
 
@@ -62,16 +69,11 @@ module _ (s : State) (x : ℕ) where
     unfolding bestCheck
     best-full h f = rw (ok, le-leb x (s .table .header .payload) h, le-ltb (length (s .best)) bestPlaces f) refl
 
-    pub best-passes : x ≤ s .table .header .payload → length (s .best) < bestPlaces → bestCheck s x ≡ accepted
+    best-passes : x ≤ s .table .header .payload → length (s .best) < bestPlaces → bestCheck s x ≡ accepted
     unfolding bestCheck
     best-passes h f = rw (ok, le-leb x (s .table .header .payload) h, lt-ltb (length (s .best)) bestPlaces f) refl
 
 -- ---- the same by the record's own parts
-none-after : (now : ℕ) (is : List Instant) → noneAfter now is ≡ true → (k : ℕ) → notAfter now (getD is k never) ≡ true
-none-after now [] e k = refl
-none-after now (i ∷ is) e zero = table.and-true (notAfter now i) (noneAfter now is) e .0
-none-after now (i ∷ is) e (suc k) = none-after now is (table.and-true (notAfter now i) (noneAfter now is) e .1) k
-
 module _ (p : Port) where
   pub best-count : length (view p .best) ≡ p .best .count
   unfolding view
@@ -89,10 +91,6 @@ module _ (p : Port) where
     pub few-rows : p .table .count ≤ mostRows
     few-rows = rw row-count at (is-accepted (view p) (clauses (view p) ok) .ranges .most)
 
-    instants : noneAfter (p .clock) (instantsOf (p .table .count) (p .last)) ≡ true
-    unfolding rowsTaken view
-    instants = clauses (view p) ok .rows
-
     module _ (places : Places p) (k : ℕ) (h : k < p .table .count) where
       placed : k < length (p .last)
       placed = rw (places .last) (omega (arith, few-rows))
@@ -105,32 +103,54 @@ module _ (p : Port) where
       unfolding view
       row-is = table.row-at (p .table) (places .rows) few-rows k h
 
-      -- a row's last instant is not after the clock
-      pub not-after : notAfter (p .clock) (instantOf (getD (p .last) k zeroLast)) ≡ true
-      not-after = rw (← instant-at (p .last) (p .table .count) k h placed) (none-after (p .clock) (instantsOf (p .table .count) (p .last)) instants k)
-
       pub early-is : early (view p) k ≡ tooSoon (instantOf (getD (p .last) k zeroLast)) (p .clock) (periodOf (getD (p .table .rows) k noRow))
       unfolding view
       early-is = rw (instant-at (p .last) (p .table .count) k h placed, table.row-at (p .table) (places .rows) few-rows k h) refl
 
       -- an offer that is let pass finds a place in its class's queue
-      pub room : early (view p) k ≡ false → length (queue (rowAt (view p .table) k .class) (view p)) < classPlaces
+      room : early (view p) k ≡ false → length (queue (rowAt (view p .table) k .class) (view p)) < classPlaces
       room late = place-left (view p) (clauses (view p) ok) k in-use late
 
--- ---- what an offer gives
-refuses : (p : Port) (c : Call) (d : Denial) (r : AfterOffer) → answer (view p) c ≡ denied (numberOf d) 0 → after (view p) c ≡ view p → r ≡ refusal p d → Gives p c (offerAnswer (r .answer)) (r .port)
-refuses p c d r a v e = subst (λ (z : AfterOffer). Gives p c (offerAnswer (z .answer)) (z .port)) (sym e) (record { answer = sym a; port = sym v; table = refl; kept = refl })
+-- ---- what an offer comes to
+module _ (p : Port) {e : Effect} where
+  pub row-refused : (k x : ℕ) (d : Denial) → offerCheck (view p) k x ≡ refused (numberOf d) 0 → e ≡ effectOn p (Refused d) None → Comes p (offer k x) e
+  row-refused k x d h q = refuses p (offer k x) d (rw h refl) (rw h refl) q
 
-module _ (p : Port) (k x : ℕ) where
-  pub row-refused : (d : Denial) (r : AfterOffer) → offerCheck (view p) k x ≡ refused (numberOf d) 0 → r ≡ refusal p d → Offered p k x r
-  row-refused d r e q = refuses p (offer k x) d r (rw e refl) (rw e refl) q
+  pub best-refused : (x : ℕ) (d : Denial) → bestCheck (view p) x ≡ refused (numberOf d) 0 → e ≡ effectOn p (Refused d) None → Comes p (offerBest x) e
+  best-refused x d h q = refuses p (offerBest x) d (rw h refl) (rw h refl) q
 
-  pub row-accepted : (q : Port) → offerCheck (view p) k x ≡ accepted → Became (takeRow k x (view p)) p q → Offered p k x (record { answer = Taken; port = q })
-  row-accepted q e v = record { answer = rw e refl; port = rw e (v .port); table = v .table; kept = tt }
+-- a row's frame joins its class's queue
+joins : (p : Port) (c : Class) (f : Frame) → carriedOut (effectOn p Taken (joinedIn c f)) (view p) ≡ joined c f (view p)
+unfolding view
+joins p A f = refl
+joins p B f = refl
 
-module _ (p : Port) (x : ℕ) where
-  pub best-refused : (d : Denial) (r : AfterOffer) → bestCheck (view p) x ≡ refused (numberOf d) 0 → r ≡ refusal p d → OfferedBest p x r
-  best-refused d r e q = refuses p (offerBest x) d r (rw e refl) (rw e refl) q
+joins-room : (c : Class) (f : Frame) (s : State) → length (queue c s) < classPlaces → HasRow f s → Room (joinedIn c f) s
+joins-room A f s h g = (h, g)
+joins-room B f s h g = (h, g)
 
-  pub best-accepted : (q : Port) → bestCheck (view p) x ≡ accepted → Became (takeBest x (view p)) p q → OfferedBest p x (record { answer = Taken; port = q })
-  best-accepted q e v = record { answer = rw e refl; port = rw e (v .port); table = v .table; kept = tt }
+module _ (p : Port) (ok : sound (view p) ≡ true) (places : Places p) (k : ℕ) (h : k < p .table .count) where
+  pub row-accepted : (x size : ℕ) {e : Effect} → x ≤ rowAt (view p .table) k .payload → early (view p) k ≡ false → size ≡ sizeFor (getD (p .table .rows) k noRow) x → e ≡ effectOn p Taken (joinedIn (getD (p .table .rows) k noRow .class) (record { source = k; size = size; taken = p .clock })) → Comes p (offer k x) e
+  unfolding view takeRow
+  row-accepted x size few late z q =
+      let check = passes (view p) k x ok (in-use p ok places k h) few late in
+      let c = rowAt (view p .table) k .class in
+      rw (q, z, ← row-is p ok places k h) (record { answer = rw check refl; port = rw check (joins p c (rowFrame (view p) k x)); room = joins-room c _ (view p) (room p ok places k h late) (omega (arith, few-rows p ok), rw (instants-length (p .table .count) (p .last)) h); kept = tt })
+
+module _ (p : Port) (ok : sound (view p) ≡ true) where
+  pub best-accepted : (x size : ℕ) {e : Effect} → x ≤ p .table .header .payload → p .best .count < bestPlaces → size ≡ wireSize x → e ≡ effectOn p Taken (JoinedBest (record { source = bestMark; size = size; taken = p .clock })) → Comes p (offerBest x) e
+  unfolding view takeBest
+  best-accepted x size few free z q =
+      let room : length (view p .best) < bestPlaces = rw (best-count p) free in
+      let check = best-passes (view p) x ok few room in
+      rw (q, z) (record { answer = rw check refl; port = rw check refl; room = room; kept = tt })
+
+-- ---- an offer that is carried out: it replies with no count
+reply-is : (r : Reply) (o : Outcome) → replyAnswer r ≡ answerBy o taken → offerAnswer (offerOf r) ≡ replyAnswer r
+reply-is Taken o h = refl
+reply-is (Passed n x) accepted h = let z : _≡_ {A = ℕ} 0 1 = cc in absurd (omega arith)
+reply-is (Passed n x) (refused m l) h = let z : _≡_ {A = ℕ} 0 1 = cc in absurd (omega arith)
+reply-is (Refused d) o h = refl
+
+pub offered : {p q : Port} {c : Call} {e : Effect} {a : Offer} (o : Outcome) → answer (view p) c ≡ answerBy o taken → Comes p c e → Carried p e q → a ≡ offerOf (e .reply) → Gives p c (offerAnswer a) q
+offered {e = e} o h m b ea = rw (ea, reply-is (e .reply) o (m .answer ∙ h)) (carries m b)

@@ -21,10 +21,11 @@ use Rattle.table.proofs.Laws as table
 use Rattle.planner.specs.Sums.{inClass, part, sumOver, maxOver, members, largest, total, shares, idle, send, bestSize}
 use Rattle.planner.specs.Bound.{blocking, residenceIn, residence, bound, mostOf, mostIn}
 use Rattle.planner.specs.Opening.{usedOk, slopesOk, sharesOk, timely, roomOk, opening, IsAccepted}
+use Rattle.planner.specs.Plan.{laneOf, pickLane, mostModest, modest, residenceBy}
 use Rattle.planner.proofs.Members.{sum-at, max-at}
 use Rattle.planner.proofs.Checks.{opening-passes, slope-limits}
 -- the bound of a row in the list of bounds, and its residence in that of residences
-pub use Rattle.planner.proofs.Limits.{bounds-row, residences-row}
+pub use Rattle.planner.proofs.Limits.{bounds-row}
 
 -- ---- sums over a class
 pub sum-none : (c : Class) (f : Row → ℕ) → sumOver c f [] ≡ 0
@@ -60,6 +61,12 @@ max-most : (c : Class) (f : Row → ℕ) (m : ℕ) (rs : List Row) → Every (λ
 unfolding maxOver
 max-most c f m [] e = omega arith
 max-most c f m (r ∷ rs) e = max-le (part-most c f m r (e .0)) (max-most c f m rs (e .1))
+
+-- and the sum at most that for each row
+sum-most : (c : Class) (f : Row → ℕ) (m : ℕ) (rs : List Row) → Every (λ r. f r ≤ m) rs → sumOver c f rs ≤ length rs * m
+unfolding sumOver
+sum-most c f m [] e = omega arith
+sum-most c f m (r ∷ rs) e = omega (arith, part-most c f m r (e .0), sum-most c f m rs (e .1))
 
 -- ---- an accepted table is one that opening accepts
 used-iff : (c : Class) (t : Contents) → usedOk c t ≡ true → (idle c t ≡ 0) ↔ (members c t ≡ 0)
@@ -143,6 +150,10 @@ unfolding opening
 too-many t h = rw (table.too-many t h) refl
 
 -- ---- both classes
+picked : (c : Class) (t : Contents) → pickLane c (laneOf A t) (laneOf B t) ≡ laneOf c t
+picked A t = refl
+picked B t = refl
+
 -- the class of the row at a number, and what stands before the quotient of its residence
 abbrev classAt : Contents → ℕ → Class
 classAt t k = rowAt t k .class
@@ -208,6 +219,10 @@ module _ (t : Contents) (ok : IsAccepted t) where
     pub most-within : mostIn c t ≤ classPlaces
     most-within = ok .room c
 
+    pub total-most : total c t ≤ mostRows * mostSize
+    unfolding total
+    total-most = omega (arith, sum-most c sizeOf mostSize (t .rows) sizes, rows-most)
+
     -- L is at most the largest wire size
     pub largest-most : largest c t ≤ mostSize
     unfolding largest
@@ -236,6 +251,13 @@ module _ (t : Contents) (ok : IsAccepted t) where
       let q : ceilDiv n (send A t) ≤ 4 * mostSize = table.ceil-most n (send A t) (4 * mostSize) (omega (arith, send-least A)) (omega (arith, send-least A, best-most)) in
       omega (arith, largest-most A)
 
+  -- a class that has a row has small numbers
+  lane-modest : (c : Class) → 0 < idle c t → modest (laneOf c t) ≡ true
+  unfolding modest
+  lane-modest c some =
+      rw (le-leb 1 (idle c t) some, le-leb _ _ (idle-most c), le-leb (largest c t) mostModest (omega (arith, largest-most c)), le-leb (total c t) mostModest (omega (arith, total-most c)), le-leb (blocking c t) mostModest (omega (arith, blocking-most c)))
+      refl
+
   -- ---- the row at a number in use
   module _ (k : ℕ) (in-use : InUse t k) where
     own : inClass (classAt t k) (rowAt t k) ≡ true
@@ -259,6 +281,11 @@ module _ (t : Contents) (ok : IsAccepted t) where
     idle-positive : 0 < idle (classAt t k) t
     idle-positive =
         ⊎-elim (λ z. absurd (omega (arith, ok .used (classAt t k) .0 z, member))) (λ p. p) (eq-zero-or-pos (idle (classAt t k) t))
+
+    -- by the classes of its table, a row has its residence
+    pub residence-by : residenceBy (laneOf A t) (laneOf B t) (rowAt t k) ≡ residence t (rowAt t k)
+    unfolding residenceBy residence residenceIn
+    residence-by = rw (picked (classAt t k) t, lane-modest (classAt t k) idle-positive, le-leb _ _ size-total) refl
 
     -- share × P is at least D × C
     pub share-covers : D * sizeOf (rowAt t k) ≤ shareOf (rowAt t k) * periodOf (rowAt t k)

@@ -23,7 +23,7 @@ pub bounds-row : (t : Contents) (k : ℕ) → InUse t k → getD (bounds t) k 0 
 unfolding bounds
 bounds-row t = each-row (bound t) t
 
-pub residences-row : (t : Contents) (k : ℕ) → InUse t k → getD (residences t) k 0 ≡ residence t (rowAt t k)
+residences-row : (t : Contents) (k : ℕ) → InUse t k → getD (residences t) k 0 ≡ residence t (rowAt t k)
 unfolding residences
 residences-row t = each-row (residence t) t
 

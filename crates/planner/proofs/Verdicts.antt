@@ -1,4 +1,4 @@
--- A plan is right at each of its ends: a refusal by the check that decides, and acceptance. Its residences make the bounds.
+-- A table's classes are right at each end: a refusal by the check that decides, and acceptance. Residences make the bounds.
 use Prim.Native.Nat.{ℕ, zero, suc, _-_, _≤_, _<_}
 use mathlib.Core.Bool.{true, false}
 use mathlib.Core.List.{List, [], _∷_, _++_, map}
@@ -14,11 +14,11 @@ use Rattle.table.specs.Rows.{Contents}
 use Rattle.table.specs.Checks.{Outcome, accepted, refused, numberOf, placeOf, passing}
 use Rattle.table.specs.Ranges.{ranged}
 use Rattle.planner.specs.declared.Lane.{Lane}
-use Rattle.planner.specs.declared.Plan.{Plan}
+use Rattle.planner.specs.declared.Classes.{Classes}
 use Rattle.planner.specs.Bound.{residence, untilReport, bound, bounds, residences}
 use Rattle.planner.specs.Opening.{slopesOk, sharesOk, timely, roomOk, opening}
-use Rattle.planner.specs.Plan.{laneOf, boundsAt, residencesAt, Planned}
-use Rattle.planner.specs.Steps.{refusedPlan, Passed}
+use Rattle.planner.specs.Plan.{laneOf, boundsAt, residencesAt, Classed}
+use Rattle.planner.specs.Steps.{refusedClasses, Passed}
 
 -- the residences of a table, each up to its report, are its bounds
 zeros : (n : ℕ) → map untilReport (replicate n 0) ≡ replicate n 0
@@ -36,11 +36,11 @@ until-reports t accepted = until-rows t (t .rows) (mostRows - length (t .rows))
 until-reports t (refused n p) = zeros mostRows
 
 module _ (t : Contents) where
-  pub refused-right : (r : Refusal) {p : Plan} → opening t ≡ refused (numberOf r) (placeOf r) → p ≡ refusedPlan r → Planned t p
-  refused-right r e f = rw f (record { verdict = sym e; a = rw e refl; b = rw e refl; residences = rw e refl })
+  pub refused-right : (r : Refusal) {p : Classes} → opening t ≡ refused (numberOf r) (placeOf r) → p ≡ refusedClasses r → Classed t p
+  refused-right r e f = rw f (record { verdict = sym e; a = rw e refl; b = rw e refl })
 
-  pub accepted-right : {a b : Lane} {rs : List ℕ} → opening t ≡ accepted → a ≡ laneOf A t → b ≡ laneOf B t → rs ≡ residences t → Planned t (record { verdict = Accepted; a = a; b = b; residences = rs })
-  accepted-right e ea eb es = record { verdict = sym e; a = rw e ea; b = rw e eb; residences = rw e es }
+  pub accepted-right : {a b : Lane} → opening t ≡ accepted → a ≡ laneOf A t → b ≡ laneOf B t → Classed t (record { verdict = Accepted; a = a; b = b })
+  accepted-right e ea eb = record { verdict = sym e; a = rw e ea; b = rw e eb }
 
   pub by-range : {n p : ℕ} → ranged t ≡ refused n p → opening t ≡ refused n p
   unfolding opening

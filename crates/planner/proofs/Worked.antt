@@ -18,8 +18,8 @@ use Rattle.table.specs.Rows.{noRow, Contents, contents}
 use Rattle.planner.specs.Sums.{members, idle}
 use Rattle.planner.specs.Bound.{residenceIn, residence}
 use Rattle.planner.specs.Opening.{usedOk}
-use Rattle.planner.specs.Plan.{laneOf}
-use Rattle.planner.specs.Steps.{pickLane, residenceWith, Modest, Lanes}
+use Rattle.planner.specs.Plan.{laneOf, residenceWith, pickLane}
+use Rattle.planner.specs.Steps.{Modest, Lanes}
 use Rattle.planner.proofs.Limits.{counted, summed}
 
 picked : (k : Class) (t : Contents) {a b : Lane} → a ≡ laneOf A t → b ≡ laneOf B t → pickLane k a b ≡ laneOf k t

@@ -1,5 +1,5 @@
 -- What the planner's private functions promise each other. No public promise cites this file.
-use Prim.Native.Nat.{ℕ, _+_, _-_, _*_, _/_, _≤_, max}
+use Prim.Native.Nat.{ℕ, _+_, _-_, _*_, _≤_, max}
 use mathlib.Core.Bool.{Bool, true, _&&_}
 use mathlib.Core.Path.{_≡_}
 use lib.Dec.{leb, eqb}
@@ -14,15 +14,16 @@ use Rattle.table.specs.Limits.{D, mostRows, mostSlope, anySize}
 use Rattle.table.specs.Wire.{ceilDiv, wireSize, sizeOf, shareOf}
 use Rattle.table.specs.Rows.{Contents}
 use Rattle.table.specs.Checks.{accepted, passing}
-use Rattle.table.specs.Ranges.{ranged}
+use Rattle.table.specs.Ranges.{rowOk, ranged}
 use Rattle.planner.specs.declared.Figures.{Figures}
 use Rattle.planner.specs.declared.Lane.{Lane}
-use Rattle.planner.specs.declared.Plan.{Plan}
+use Rattle.planner.specs.declared.Classes.{Classes}
+use Rattle.planner.specs.declared.Totals.{Totals}
 use Rattle.planner.specs.declared.Judgement.{Judgement}
 use Rattle.planner.specs.Sums.{part, members, largest, total, shares}
 use Rattle.planner.specs.Bound.{mostIn}
 use Rattle.planner.specs.Opening.{sameTest, usedOk, slopesOk, sharesOk, timely}
-use Rattle.planner.specs.Plan.{laneOf, noLane, noTimes}
+use Rattle.planner.specs.Plan.{laneOf, noLane, mostModest}
 
 -- A class's figures, in one record.
 abbrev pub figuresOf : Class → Contents → Figures
@@ -62,18 +63,17 @@ laneA h a b = record { idle = h .idlea; largest = a .largest; total = a .total; 
 abbrev pub laneB : Header → Figures → Figures → Lane
 laneB h a b = record { idle = h .idleb; largest = b .largest; total = b .total; blocking = a .largest + ceilDiv (max (D * wireSize (h .payload)) (h .idlea * b .largest)) (D - h .idlea) }
 
--- A row's residence, from its wire size and its class.
-abbrev pub residenceWith : ℕ → Lane → ℕ
-residenceWith c l = c + l .blocking + (D * (l .total - c) + (D - l .idle) * l .largest) / l .idle
-
--- The one of two classes that is named.
-abbrev pub pickLane : Class → Lane → Lane → Lane
-pickLane A a b = a
-pickLane B a b = b
-
 -- A refusal, with zeros for figures.
-abbrev pub refusedPlan : Refusal → Plan
-refusedPlan r = record { verdict = Refused r; a = noLane; b = noLane; residences = noTimes }
+abbrev pub refusedClasses : Refusal → Classes
+refusedClasses r = record { verdict = Refused r; a = noLane; b = noLane }
+
+-- How many rows are in range before the first that is not, and both classes' figures if that is all the rows.
+pub record TotalsOf (t : Contents) (r : Totals) : Type 0 where
+  pub passed : r .passed ≡ passing rowOk (t .rows)
+  pub a : length (t .rows) ≤ r .passed → r .a ≡ figuresOf A t
+  pub b : length (t .rows) ≤ r .passed → r .b ≡ figuresOf B t
+  pub small-a : Small mostRows (r .a)
+  pub small-b : Small mostRows (r .b)
 
 -- The figures of both classes.
 pub record Summed (t : Contents) (a b : Figures) : Type 0 where
@@ -98,9 +98,9 @@ pub record JudgementOf (t : Contents) (r : Judgement) : Type 0 where
 -- No number of a class is large, whatever its rows hold. (The header check is what limits the idle slope.)
 pub record Modest (l : Lane) : Type 0 where
   pub idle : l .idle ≤ mostSlope
-  pub largest : l .largest ≤ anySize
-  pub total : l .total ≤ mostRows * anySize
-  pub blocking : l .blocking ≤ anySize + D * anySize
+  pub largest : l .largest ≤ mostModest
+  pub total : l .total ≤ mostModest
+  pub blocking : l .blocking ≤ mostModest
 
 -- Both classes of a table whose slopes are 0 exactly where a class has no row.
 pub record Lanes (t : Contents) (a b : Lane) : Type 0 where

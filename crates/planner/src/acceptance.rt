@@ -5,17 +5,20 @@ ghost use lib.Dec.{eqb};
 ghost use Rattle.table.specs.Limits.{mostRows, mostSlope};
 ghost use Rattle.table.specs.Wire.{ceilDiv, periodOf};
 ghost use Rattle.table.specs.Rows.{contents};
+ghost use Rattle.table.specs.Checks.{accepted};
+ghost use Rattle.table.specs.Ranges.{ranged};
 ghost use Rattle.planner.specs.Sums.{part};
 ghost use Rattle.planner.specs.Bound.{residences};
 ghost use Rattle.planner.specs.Opening.{sameTest};
-ghost use Rattle.planner.specs.Plan.{Planned};
-ghost use Rattle.planner.specs.Steps.{Small, slopesBy, laneA, laneB, pickLane, residenceWith, refusedPlan, Summed, Passed, Modest, Lanes, JudgementOf};
+ghost use Rattle.planner.specs.Plan.{pickLane, residenceWith, modest, residenceBy, Classed, Planned};
+ghost use Rattle.planner.specs.Steps.{Small, slopesBy, laneA, laneB, refusedClasses, Summed, Passed, Modest, Lanes, JudgementOf};
+use crate::Classes;
 use crate::Figures;
 use crate::Judgement;
 use crate::Lane;
 use crate::Plan;
 use crate::reports::bound_of;
-use crate::sums::figures;
+use crate::sums::summed;
 use table::CLASS_PLACES;
 use table::Class;
 use table::Header;
@@ -27,12 +30,16 @@ use table::Verdict;
 use table::classes::same_class;
 use table::quotient::ceil_div;
 use table::quotient::larger;
+use table::ranges::HEADER_PLACE;
 use table::ranges::MOST_SLOPE;
-use table::ranges::ranges;
+use table::ranges::header_ok;
 use table::wire::D;
 use table::wire::period;
 use table::wire::size;
 use table::wire::wire_size;
+
+// No number of a class that an accepted table has is as large.
+const MODEST: u64 = 1_099_511_627_776;
 
 // A class's idle slope is 0 exactly if it has no row.
 fn used_ok(idle: u32, members: u64) -> bool
@@ -150,32 +157,42 @@ fn most_of(class: Class, row: Row, residence: u64) -> u64
 }
 
 // The rows' bounds held against their deadlines, and their residences counted against their periods, up to the first row that is late.
-fn judged(t: Table, times: [u64; ROWS]) -> Judgement
+fn judged(t: Table, a: Lane, b: Lane) -> Judgement
     requires { ⌜ t .count ≤ mostRows ⌝ }
-    requires { ⌜ times ≡ residences (contents t) ⌝ }
+    requires { ⌜ Lanes (contents t) a b ⌝ }
     ensures { λ r. ⌜ JudgementOf (contents t) r ⌝ }
 {
     let n = t.count;
-    let mut a: u64 = 0;
-    let mut b: u64 = 0;
+    let mut ofa: u64 = 0;
+    let mut ofb: u64 = 0;
     let mut i: usize = 0;
     while i < n {
         let this = t.rows[i];
-        let residence = times[i];
+        let of = this.class;
+        let l = lane(of, a, b);
+        let residence = row_residence(size(this), l);
         let bound = bound_of(residence);
         if (this.deadline as u64) < bound {
-            return Judgement { timely: i, a, b };
+            return Judgement {
+                timely: i,
+                a: ofa,
+                b: ofb,
+            };
         }
-        a += most_of(Class::A, this, residence);
-        b += most_of(Class::B, this, residence);
+        ofa += most_of(Class::A, this, residence);
+        ofb += most_of(Class::B, this, residence);
         i += 1;
     }
-    Judgement { timely: i, a, b }
+    Judgement {
+        timely: i,
+        a: ofa,
+        b: ofb,
+    }
 }
 
 // A refusal, with zeros for figures.
-fn refused(r: Refusal) -> Plan
-    ensures { λ p. ⌜ p ≡ refusedPlan r ⌝ }
+fn refused(r: Refusal) -> Classes
+    ensures { λ p. ⌜ p ≡ refusedClasses r ⌝ }
 {
     let none = Lane {
         idle: 0,
@@ -183,25 +200,20 @@ fn refused(r: Refusal) -> Plan
         total: 0,
         blocking: 0,
     };
-    Plan {
+    Classes {
         verdict: Verdict::Refused(r),
         a: none,
         b: none,
-        residences: [0; ROWS],
     }
 }
 
-// The plan of a table that only a late row or a class with too many frames can still have refused.
-fn timely_plan(t: Table, f: Figures, g: Figures) -> Plan
-    requires { ⌜ Summed (contents t) f g ⌝ }
+// The classes of a table that only a late row or a class with too many frames can still have refused.
+fn timely_classes(t: Table, a: Lane, b: Lane) -> Classes
+    requires { ⌜ Lanes (contents t) a b ⌝ }
     requires { ⌜ Passed (contents t) ⌝ }
-    ensures { λ r. ⌜ Planned (contents t) r ⌝ }
+    ensures { λ r. ⌜ Classed (contents t) r ⌝ }
 {
-    let h = t.header;
-    let a = lane_a(h, f, g);
-    let b = lane_b(h, f, g);
-    let residences = row_residences(t, a, b);
-    let found = judged(t, residences);
+    let found = judged(t, a, b);
     if found.timely < t.count {
         return refused(Refusal::Deadline(found.timely));
     }
@@ -211,24 +223,20 @@ fn timely_plan(t: Table, f: Figures, g: Figures) -> Plan
     if (CLASS_PLACES as u64) < found.b {
         return refused(Refusal::Frames(Class::B));
     }
-    Plan {
+    Classes {
         verdict: Verdict::Accepted,
         a,
         b,
-        residences,
     }
 }
 
-// A table's verdict, and of an accepted table its classes and the residence of each row.
-pub fn plan(t: Table) -> Plan
-    ensures { λ r. ⌜ Planned (contents t) r ⌝ }
+// The classes of a table in range, by their figures.
+fn fair_classes(t: Table, a: Figures, b: Figures) -> Classes
+    requires { ⌜ Summed (contents t) a b ⌝ }
+    requires { ⌜ ranged (contents t) ≡ accepted ⌝ }
+    ensures { λ r. ⌜ Classed (contents t) r ⌝ }
 {
     let h = t.header;
-    if let Verdict::Refused(r) = ranges(t) {
-        return refused(r);
-    }
-    let a = figures(t, Class::A);
-    let b = figures(t, Class::B);
     if !slopes_ok(h, a, b) {
         return refused(Refusal::Slopes);
     }
@@ -238,5 +246,91 @@ pub fn plan(t: Table) -> Plan
     if (h.idleb as u64) < b.shares {
         return refused(Refusal::Shares(Class::B));
     }
-    timely_plan(t, a, b)
+    let ofa = lane_a(h, a, b);
+    let ofb = lane_b(h, a, b);
+    timely_classes(t, ofa, ofb)
+}
+
+// A table's verdict, and of an accepted table its classes: one pass over the rows for their ranges and the classes' sums, and one for what these make of each row.
+pub fn classes(t: Table) -> Classes
+    ensures { λ r. ⌜ Classed (contents t) r ⌝ }
+{
+    let n = t.count;
+    if n < 1 {
+        return refused(Refusal::RowCount);
+    }
+    if ROWS < n {
+        return refused(Refusal::RowCount);
+    }
+    let h = t.header;
+    if !header_ok(h) {
+        return refused(Refusal::Value(HEADER_PLACE));
+    }
+    let sums = summed(t);
+    if sums.passed < n {
+        return refused(Refusal::Value(sums.passed));
+    }
+    let a = sums.a;
+    let b = sums.b;
+    fair_classes(t, a, b)
+}
+
+// The same, with the residence of each row of an accepted table.
+pub fn plan(t: Table) -> Plan
+    ensures { λ r. ⌜ Planned (contents t) r ⌝ }
+{
+    let made = classes(t);
+    let a = made.a;
+    let b = made.b;
+    let verdict = made.verdict;
+    if let Verdict::Accepted = verdict {
+        let residences = row_residences(t, a, b);
+        return Plan {
+            verdict,
+            a,
+            b,
+            residences,
+        };
+    }
+    Plan {
+        verdict,
+        a,
+        b,
+        residences: [0; ROWS],
+    }
+}
+
+// The numbers of a class are small, and it has an idle slope.
+fn is_modest(l: Lane) -> bool
+    ensures { λ r. ⌜ r ≡ modest l ⌝ }
+{
+    if l.idle < 1 {
+        return false;
+    }
+    if (MOST_SLOPE as u64) < l.idle {
+        return false;
+    }
+    if MODEST < l.largest {
+        return false;
+    }
+    if MODEST < l.total {
+        return false;
+    }
+    l.blocking <= MODEST
+}
+
+// A row's residence, by the classes of an accepted table that has it; 0 by numbers that are not small, or by a sum below the row's wire size.
+pub fn residence(row: Row, a: Lane, b: Lane) -> u64
+    ensures { λ r. ⌜ r ≡ residenceBy a b row ⌝ }
+{
+    let of = row.class;
+    let l = lane(of, a, b);
+    let c = size(row);
+    if !is_modest(l) {
+        return 0;
+    }
+    if l.total < c {
+        return 0;
+    }
+    row_residence(c, l)
 }

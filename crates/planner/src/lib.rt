@@ -9,6 +9,7 @@ pub mod acceptance;
 mod reports;
 mod sums;
 
+use crate::acceptance::classes;
 use crate::acceptance::plan;
 use crate::reports::bounds_of;
 use table::ROWS;
@@ -21,6 +22,13 @@ struct Figures {
     largest: u64,
     total: u64,
     shares: u64,
+}
+
+// How many rows are in range before the first that is not, and both classes' figures over the rows up to there.
+struct Totals {
+    passed: usize,
+    a: Figures,
+    b: Figures,
 }
 
 // How many rows are in time before the first that is not; where all are, how many frames each class may have in the port.
@@ -38,7 +46,14 @@ pub struct Lane {
     pub blocking: u64,
 }
 
-// A verdict, and of an accepted table its classes and the residence of each row; zeros at a refusal.
+// A verdict, and of an accepted table its classes; zeros at a refusal.
+pub struct Classes {
+    pub verdict: Verdict,
+    pub a: Lane,
+    pub b: Lane,
+}
+
+// The same with the residence of each row.
 pub struct Plan {
     pub verdict: Verdict,
     pub a: Lane,
@@ -56,7 +71,7 @@ pub struct Sheet {
 pub fn opening(t: Table) -> Verdict
     ensures { λ r. ⌜ outcomeOf r ≡ opening (contents t) ⌝ }
 {
-    plan(t).verdict
+    classes(t).verdict
 }
 
 // The bounds of a table's rows.

@@ -1,15 +1,17 @@
-// The figures of a class: its rows taken together.
+// The figures of the classes: their rows taken together.
 ghost use mathlib.Core.Path.{_≡_};
 ghost use Prim.Native.Nat.{_≤_};
 ghost use Rattle.table.specs.Limits.{mostRows};
 ghost use Rattle.table.specs.Rows.{contents};
-ghost use Rattle.planner.specs.Steps.{figuresOf, joined, Small, Grown};
+ghost use Rattle.planner.specs.Steps.{joined, Small, Grown, TotalsOf};
 use crate::Figures;
+use crate::Totals;
 use table::Class;
 use table::Row;
 use table::Table;
 use table::classes::same_class;
 use table::quotient::larger;
+use table::ranges::row_ok;
 use table::wire::share;
 use table::wire::size;
 
@@ -32,23 +34,29 @@ fn with_row(f: Figures, class: Class, row: Row) -> Figures
     }
 }
 
-// A class's figures over the rows of a table.
-pub fn figures(t: Table, class: Class) -> Figures
+// One pass over the rows in use: their ranges, and both classes' figures.
+pub fn summed(t: Table) -> Totals
     requires { ⌜ t .count ≤ mostRows ⌝ }
-    ensures { λ r. ⌜ r ≡ figuresOf class (contents t) ⌝ }
-    ensures small { λ r. ⌜ Small 32 r ⌝ }
+    ensures { λ r. ⌜ TotalsOf (contents t) r ⌝ }
 {
     let n = t.count;
-    let mut f = Figures {
+    let none = Figures {
         members: 0,
         largest: 0,
         total: 0,
         shares: 0,
     };
+    let mut a = none;
+    let mut b = none;
     let mut i: usize = 0;
     while i < n {
-        f = with_row(f, class, t.rows[i]);
+        let row = t.rows[i];
+        if !row_ok(row) {
+            return Totals { passed: i, a, b };
+        }
+        a = with_row(a, Class::A, row);
+        b = with_row(b, Class::B, row);
         i += 1;
     }
-    f
+    Totals { passed: i, a, b }
 }

@@ -13,7 +13,7 @@ use Rattle.table.specs.Wire.{periodOf}
 use Rattle.table.specs.Rows.{Contents, rowAt, InUse}
 use Rattle.planner.specs.Sums.{bestSize}
 use Rattle.table.proofs.Laws as table
-use Rattle.planner.specs.Bound.{residence, mostOf, residences}
+use Rattle.planner.specs.Bound.{residence, mostOf}
 use Rattle.planner.specs.Opening.{IsAccepted}
 use Rattle.planner.proofs.Laws as law
 use Rattle.machine.specs.declared.Frame.{Frame}
@@ -21,11 +21,12 @@ use Rattle.machine.specs.declared.Wire.{Wire}
 use Rattle.machine.specs.declared.Wire.the-variants.{Free, Sending}
 use Rattle.machine.specs.State.{never, State}
 use Rattle.machine.specs.Time.{shaped, unshaped, owner}
-use Rattle.machine.specs.Record.{allOf, onSending, namesRow, isBest, rowIn, sizeWithin, rowSize, sizeBy, takenBy, sending, takenOf, upTo, spaced, endsAt, rowOnly, tableSound, clockSound, creditSound, bestSound, namesSound, queuesSound, sizesSound, leftSound, framesTaken, rowsTaken, heldSound, apartSound, latestSound, ageSound, sound}
+use Rattle.machine.specs.Record.{allOf, onSending, namesRow, isBest, rowIn, sizeWithin, rowSize, sizeBy, takenBy, sending, takenOf, spaced, endsAt, rowOnly, tableSound, clockSound, creditSound, bestSound, namesSound, queuesSound, sizesSound, leftSound, framesTaken, rowsTaken, heldSound, apartSound, latestSound, ageSound, sound}
 use Rattle.machine.proofs.FromSound.{three-true, four-true, Clauses, clauses, table-accepted, is-accepted}
 use Rattle.frames.specs.Tests.{rowTest, frameTest, bestTest, sendingTest}
 use Rattle.tally.specs.Rows.{inLimit, instantsTest, heldTest}
-use Rattle.record.specs.Steps.{numbersTest, framesTest, rowsTest}
+use Rattle.spacing.proofs.Laws.{up-to-same, up-to-both}
+use Rattle.record.specs.Steps.{numbersTest, othersTest, waitingTest, rowsTest}
 
 -- ---- tests
 pub same-test : (x y : Bool) → (x ≡ true → y ≡ true) → (y ≡ true → x ≡ true) → x ≡ y
@@ -47,23 +48,9 @@ all-both x y (f ∷ q) = go (x f) (y f) (allOf x q) (allOf y q) (all-both x y q)
     go true false false d p = refl
     go false b c d p = refl
 
--- a test of each number below n that is made of two
-up-to-both : (n : ℕ) (x y : ℕ → Bool) → upTo n (λ k. x k && y k) ≡ (upTo n x && upTo n y)
-up-to-both zero x y = refl
-up-to-both (suc n) x y = go (x n) (y n) (upTo n x) (upTo n y) (up-to-both n x y)
-  where
-    go : (a b c d : Bool) {e : Bool} → e ≡ (c && d) → (e && (a && b)) ≡ ((c && a) && (d && b))
-    go a b true d {e} p = rw p (mid a b d)
-      where
-        mid : (a b d : Bool) → (d && (a && b)) ≡ (a && (d && b))
-        mid true b d = refl
-        mid false b true = refl
-        mid false b false = refl
-    go a b false d p = rw p refl
-
-up-to-same : (n : ℕ) (ok too : ℕ → Bool) → ((k : ℕ) → k < n → ok k ≡ too k) → upTo n ok ≡ upTo n too
-up-to-same zero ok too e = refl
-up-to-same (suc n) ok too e = rw (up-to-same n ok too (λ k h. e k (omega arith)), e n (omega arith)) refl
+-- the limits are the rows' residences
+abbrev pub Right : Contents → List ℕ → Type 0
+Right t limits = (k : ℕ) → InUse t k → getD limits k 0 ≡ residence t (rowAt t k)
 
 -- ---- a class's queue
 abbrev youngBy : Contents → ℕ → Frame → Bool
@@ -76,7 +63,7 @@ record OfQueue (c : Class) (t : Contents) (now : ℕ) (q : List Frame) : Type 0 
   taken : allOf (takenBy now) q ≡ true
   young : allOf (youngBy t now) q ≡ true
 
-module _ (c : Class) (t : Contents) (now : ℕ) (q : List Frame) where
+module _ (t : Contents) (limits : List ℕ) (right : Right t limits) (c : Class) (now : ℕ) (q : List Frame) where
   abbrev fits : Frame → Bool
   fits f = rowIn c t f && rowSize t f
 
@@ -84,22 +71,20 @@ module _ (c : Class) (t : Contents) (now : ℕ) (q : List Frame) where
   timely f = takenBy now f && youngBy t now f
 
   -- a row's limit is its residence
-  frame-tests : (f : Frame) → frameTest c t (residences t) now f ≡ (namesRow t f && (fits f && timely f))
+  frame-tests : (f : Frame) → frameTest c t limits now f ≡ (namesRow t f && (fits f && timely f))
   unfolding frameTest rowTest
   frame-tests f = go (namesRow t f) refl
     where
-      go : (b : Bool) → namesRow t f ≡ b → frameTest c t (residences t) now f ≡ (namesRow t f && (fits f && timely f))
-      go true e =
-          let limit : getD (residences t) (f .source) 0 ≡ residence t (rowAt t (f .source)) = law.residences-row t (f .source) (table.is-used t (f .source) e) in
-          rw (e, limit) refl
+      go : (b : Bool) → namesRow t f ≡ b → frameTest c t limits now f ≡ (namesRow t f && (fits f && timely f))
+      go true e = rw (e, right (f .source) (table.is-used t (f .source) e)) refl
       go false e = rw e refl
 
-  queue-tests : allOf (frameTest c t (residences t) now) q ≡ (allOf (namesRow t) q && ((allOf (rowIn c t) q && allOf (rowSize t) q) && (allOf (takenBy now) q && allOf (youngBy t now) q)))
+  queue-tests : allOf (frameTest c t limits now) q ≡ (allOf (namesRow t) q && ((allOf (rowIn c t) q && allOf (rowSize t) q) && (allOf (takenBy now) q && allOf (youngBy t now) q)))
   queue-tests =
-      rw (all-same (frameTest c t (residences t) now) (λ f. namesRow t f && (fits f && timely f)) frame-tests q, all-both (namesRow t) (λ f. fits f && timely f) q, all-both fits timely q, all-both (rowIn c t) (rowSize t) q, all-both (takenBy now) (youngBy t now) q)
+      rw (all-same (frameTest c t limits now) (λ f. namesRow t f && (fits f && timely f)) frame-tests q, all-both (namesRow t) (λ f. fits f && timely f) q, all-both fits timely q, all-both (rowIn c t) (rowSize t) q, all-both (takenBy now) (youngBy t now) q)
       refl
 
-  of-queue : allOf (frameTest c t (residences t) now) q ≡ true → OfQueue c t now q
+  of-queue : allOf (frameTest c t limits now) q ≡ true → OfQueue c t now q
   of-queue e =
       let p = table.and-true (allOf (namesRow t) q) _ (sym queue-tests ∙ e) in
       let f = table.and-true (allOf (rowIn c t) q && allOf (rowSize t) q) _ (p .1) in
@@ -107,7 +92,7 @@ module _ (c : Class) (t : Contents) (now : ℕ) (q : List Frame) where
       let h = table.and-true (allOf (takenBy now) q) (allOf (youngBy t now) q) (f .1) in
       record { names = p .0; class = g .0; sizes = g .1; taken = h .0; young = h .1 }
 
-  queue-passes : OfQueue c t now q → allOf (frameTest c t (residences t) now) q ≡ true
+  queue-passes : OfQueue c t now q → allOf (frameTest c t limits now) q ≡ true
   queue-passes p = queue-tests ∙ rw (p .names, p .class, p .sizes, p .taken, p .young) refl
 
 -- ---- the best-effort queue
@@ -138,7 +123,7 @@ record OfWire (t : Contents) (now : ℕ) (w : Wire) : Type 0 where
   taken : onSending (λ f left. takenBy now f) w ≡ true
   young : onSending (λ f left. rowOnly (owner t f) (youngBy t now f)) w ≡ true
 
-module _ (t : Contents) (now : ℕ) where
+module _ (t : Contents) (limits : List ℕ) (right : Right t limits) (now : ℕ) where
   -- a frame on the wire that names a row, or does not
   owned : (f : Frame) → namesRow t f ≡ true → owner t f ≡ shaped (rowAt t (f .source) .class)
   unfolding owner
@@ -155,18 +140,18 @@ module _ (t : Contents) (now : ℕ) where
     abbrev own : Class
     own = rowAt t (f .source) .class
 
-    by-row : namesRow t f ≡ true → sendingTest t (residences t) now f left ≡ (bytes && frameTest own t (residences t) now f)
+    by-row : namesRow t f ≡ true → sendingTest t limits now f left ≡ (bytes && frameTest own t limits now f)
     unfolding sendingTest
     by-row n = rw n refl
 
-    by-mark : namesRow t f ≡ false → sendingTest t (residences t) now f left ≡ (bytes && bestTest (bestSize t) now f)
+    by-mark : namesRow t f ≡ false → sendingTest t limits now f left ≡ (bytes && bestTest (bestSize t) now f)
     unfolding sendingTest
     by-mark n = rw n refl
 
-    of-row : namesRow t f ≡ true → sendingTest t (residences t) now f left ≡ true → OfWire t now (Sending f left)
+    of-row : namesRow t f ≡ true → sendingTest t limits now f left ≡ true → OfWire t now (Sending f left)
     of-row n e =
-        let p = table.and-true bytes (frameTest own t (residences t) now f) (sym (by-row n) ∙ e) in
-        let q = of-queue own t now (f ∷ []) (rw (p .1) refl) in
+        let p = table.and-true bytes (frameTest own t limits now f) (sym (by-row n) ∙ e) in
+        let q = of-queue t limits right own now (f ∷ []) (rw (p .1) refl) in
         record {
           names = rw n refl;
           sizes = rw (owned f n) (table.and-true (rowSize t f) true (q .sizes) .0);
@@ -175,7 +160,7 @@ module _ (t : Contents) (now : ℕ) where
           young = rw (owned f n) (table.and-true (youngBy t now f) true (q .young) .0);
         }
 
-    of-mark : namesRow t f ≡ false → sendingTest t (residences t) now f left ≡ true → OfWire t now (Sending f left)
+    of-mark : namesRow t f ≡ false → sendingTest t limits now f left ≡ true → OfWire t now (Sending f left)
     of-mark n e =
         let p = table.and-true bytes (bestTest (bestSize t) now f) (sym (by-mark n) ∙ e) in
         let q = of-best (bestSize t) now (f ∷ []) (rw (p .1) refl) in
@@ -187,15 +172,15 @@ module _ (t : Contents) (now : ℕ) where
           young = rw (unowned f n) refl;
         }
 
-    row-passes : namesRow t f ≡ true → OfWire t now (Sending f left) → sendingTest t (residences t) now f left ≡ true
+    row-passes : namesRow t f ≡ true → OfWire t now (Sending f left) → sendingTest t limits now f left ≡ true
     row-passes n w =
         let sizes : rowSize t f ≡ true = rw (owned f n) at (w .sizes) in
         let young : youngBy t now f ≡ true = rw (owned f n) at (w .young) in
         let q : OfQueue own t now (f ∷ []) = record { names = rw n refl; class = rw (table.same-self own) refl; sizes = rw sizes refl; taken = rw (w .taken) refl; young = rw young refl } in
-        let e = table.and-true (frameTest own t (residences t) now f) true (queue-passes own t now (f ∷ []) q) .0 in
+        let e = table.and-true (frameTest own t limits now f) true (queue-passes t limits right own now (f ∷ []) q) .0 in
         by-row n ∙ rw (w .left, e) refl
 
-    mark-passes : namesRow t f ≡ false → OfWire t now (Sending f left) → sendingTest t (residences t) now f left ≡ true
+    mark-passes : namesRow t f ≡ false → OfWire t now (Sending f left) → sendingTest t limits now f left ≡ true
     mark-passes n w =
         let sizes : sizeWithin (bestSize t) f ≡ true = rw (unowned f n) at (w .sizes) in
         let marks : isBest f ≡ true = rw n at (w .names) in
@@ -203,7 +188,7 @@ module _ (t : Contents) (now : ℕ) where
         let e = table.and-true (bestTest (bestSize t) now f) true (best-passes (bestSize t) now (f ∷ []) q) .0 in
         by-mark n ∙ rw (w .left, e) refl
 
-  of-wire : (w : Wire) → onSending (sendingTest t (residences t) now) w ≡ true → OfWire t now w
+  of-wire : (w : Wire) → onSending (sendingTest t limits now) w ≡ true → OfWire t now w
   of-wire Free e = record { names = refl; sizes = refl; left = refl; taken = refl; young = refl }
   of-wire (Sending f left) e = go (namesRow t f) refl
     where
@@ -211,23 +196,26 @@ module _ (t : Contents) (now : ℕ) where
       go true n = of-row f left n e
       go false n = of-mark f left n e
 
-  wire-passes : (w : Wire) → OfWire t now w → onSending (sendingTest t (residences t) now) w ≡ true
+  wire-passes : (w : Wire) → OfWire t now w → onSending (sendingTest t limits now) w ≡ true
   wire-passes Free p = refl
   wire-passes (Sending f left) p = go (namesRow t f) refl
     where
-      go : (b : Bool) → namesRow t f ≡ b → sendingTest t (residences t) now f left ≡ true
+      go : (b : Bool) → namesRow t f ≡ b → sendingTest t limits now f left ≡ true
       go true n = row-passes f left n p
       go false n = mark-passes f left n p
 
 -- ---- a record
-pub record Passes (s : State) : Type 0 where
-  pub table : tableSound s ≡ true
+pub record Passes (limits : List ℕ) (s : State) : Type 0 where
   pub numbers : numbersTest s ≡ true
-  pub best : bestSound s ≡ true
-  pub frames : framesTest (residences (s .table)) s ≡ true
-  pub rows : rowsTest (residences (s .table)) s ≡ true
+  pub others : othersTest limits s ≡ true
+  pub rows : rowsTest limits s ≡ true
 
-module _ (s : State) where
+-- a table that is not accepted
+pub refused : (s : State) → tableSound s ≡ false → false ≡ sound s
+unfolding sound
+refused s e = rw e refl
+
+module _ (s : State) (limits : List ℕ) (right : Right (s .table) limits) where
   abbrev ofQueue : Class → List Frame → Type 0
   ofQueue c q = OfQueue c (s .table) (s .clock) q
 
@@ -238,19 +226,20 @@ module _ (s : State) where
     best : OfBest (bestSize (s .table)) (s .clock) (s .best)
     wire : OfWire (s .table) (s .clock) (s .wire)
 
-  of-frames : framesTest (residences (s .table)) s ≡ true → OfFrames
-  unfolding framesTest
-  of-frames e =
-      let p = table.and-true (allOf (frameTest A (s .table) (residences (s .table)) (s .clock)) (s .a) && allOf (frameTest B (s .table) (residences (s .table)) (s .clock)) (s .b)) _ e in
-      let q = table.and-true (allOf (frameTest A (s .table) (residences (s .table)) (s .clock)) (s .a)) (allOf (frameTest B (s .table) (residences (s .table)) (s .clock)) (s .b)) (p .0) in
-      let r = table.and-true (allOf (bestTest (bestSize (s .table)) (s .clock)) (s .best)) (onSending (sendingTest (s .table) (residences (s .table)) (s .clock)) (s .wire)) (p .1) in
-      record { a = of-queue A _ _ _ (q .0); b = of-queue B _ _ _ (q .1); best = of-best _ _ _ (r .0); wire = of-wire _ _ (s .wire) (r .1) }
+  of-frames : othersTest limits s ≡ true → waitingTest limits s ≡ true → OfFrames
+  unfolding othersTest waitingTest
+  of-frames e f =
+      let q = table.and-true (allOf (frameTest A (s .table) limits (s .clock)) (s .a)) (allOf (frameTest B (s .table) limits (s .clock)) (s .b)) f in
+      let r = table.and-true (allOf (bestTest (bestSize (s .table)) (s .clock)) (s .best)) (onSending (sendingTest (s .table) limits (s .clock)) (s .wire)) e in
+      record { a = of-queue (s .table) limits right A _ _ (q .0); b = of-queue (s .table) limits right B _ _ (q .1); best = of-best _ _ _ (r .0); wire = of-wire (s .table) limits right _ (s .wire) (r .1) }
 
-  frames-pass : OfFrames → framesTest (residences (s .table)) s ≡ true
-  unfolding framesTest
-  frames-pass p =
-      rw (queue-passes A (s .table) (s .clock) (s .a) (p .a), queue-passes B (s .table) (s .clock) (s .b) (p .b), best-passes (bestSize (s .table)) (s .clock) (s .best) (p .best), wire-passes (s .table) (s .clock) (s .wire) (p .wire))
-      refl
+  others-pass : OfFrames → othersTest limits s ≡ true
+  unfolding othersTest
+  others-pass p = rw (best-passes (bestSize (s .table)) (s .clock) (s .best) (p .best), wire-passes (s .table) limits right (s .clock) (s .wire) (p .wire)) refl
+
+  queues-pass : OfFrames → waitingTest limits s ≡ true
+  unfolding waitingTest
+  queues-pass p = rw (queue-passes (s .table) limits right A (s .clock) (s .a) (p .a), queue-passes (s .table) limits right B (s .clock) (s .b) (p .b)) refl
 
   -- the clauses of a sound record, part by part
   of-clauses : Clauses s → OfFrames
@@ -311,48 +300,49 @@ module _ (s : State) where
   latest k = endsAt (takenOf k s) (getD (s .last) k never)
 
   module _ (ok : IsAccepted (s .table)) where
-    row-tests : (k : ℕ) → k < length (s .table .rows) → heldTest (s .table) (residences (s .table)) (s .last) (sending (s .wire) ++ (s .a ++ s .b)) k ≡ (few k && (spread k && latest k))
+    row-tests : (k : ℕ) → k < length (s .table .rows) → heldTest (s .table) limits (s .last) (sending (s .wire) ++ (s .a ++ s .b)) k ≡ (few k && (spread k && latest k))
     unfolding heldTest instantsTest takenOf
     row-tests k h =
         let in-use : InUse (s .table) k = record { below = h } in
-        let limit : getD (residences (s .table)) k 0 ≡ residence (s .table) (rowAt (s .table) k) = law.residences-row (s .table) k in-use in
-        rw (limit, count-same (length (takenOf k s)) k in-use) refl
+        rw (right k in-use, count-same (length (takenOf k s)) k in-use) refl
       where
         count-same : (n k : ℕ) → InUse (s .table) k → inLimit n (periodOf (rowAt (s .table) k)) (residence (s .table) (rowAt (s .table) k)) ≡ leb n (mostOf (s .table) (rowAt (s .table) k))
         count-same zero k u = sym (le-leb 0 (mostOf (s .table) (rowAt (s .table) k)) (omega arith))
         count-same (suc n) k u = law.most-periods (s .table) ok k u n
 
-    rows-tests : rowsTest (residences (s .table)) s ≡ (rowsTaken s && (heldSound s && (apartSound s && latestSound s)))
+    rows-tests : rowsTest limits s ≡ (rowsTaken s && (waitingTest limits s && (heldSound s && (apartSound s && latestSound s))))
     unfolding rowsTest heldSound apartSound latestSound
     rows-tests =
-        rw (up-to-same (length (s .table .rows)) (heldTest (s .table) (residences (s .table)) (s .last) (sending (s .wire) ++ (s .a ++ s .b))) (λ k. few k && (spread k && latest k)) row-tests, up-to-both (length (s .table .rows)) few (λ k. spread k && latest k), up-to-both (length (s .table .rows)) spread latest)
+        rw (up-to-same (length (s .table .rows)) (heldTest (s .table) limits (s .last) (sending (s .wire) ++ (s .a ++ s .b))) (λ k. few k && (spread k && latest k)) row-tests, up-to-both (length (s .table .rows)) few (λ k. spread k && latest k), up-to-both (length (s .table .rows)) spread latest)
         refl
 
-    rows-hold : rowsTest (residences (s .table)) s ≡ true → (rowsTaken s ≡ true) × (heldSound s ≡ true) × (apartSound s ≡ true) × (latestSound s ≡ true)
+    rows-hold : rowsTest limits s ≡ true → (rowsTaken s ≡ true) × (waitingTest limits s ≡ true) × (heldSound s ≡ true) × (apartSound s ≡ true) × (latestSound s ≡ true)
     rows-hold e =
         let p = table.and-true (rowsTaken s) _ (sym rows-tests ∙ e) in
-        let q = table.and-true (heldSound s) _ (p .1) in
+        let f = table.and-true (waitingTest limits s) _ (p .1) in
+        let q = table.and-true (heldSound s) _ (f .1) in
         let r = table.and-true (apartSound s) (latestSound s) (q .1) in
-        (p .0, q .0, r .0, r .1)
+        (p .0, f .0, q .0, r .0, r .1)
 
-  pub passes : sound s ≡ true → Passes s
+  passes : sound s ≡ true → Passes limits s
   unfolding numbersTest
   passes e =
       let c = clauses s e in
-      record { table = c .table; numbers = rw (c .clock, c .credit-a, c .credit-b) refl; best = c .best; frames = frames-pass (of-clauses c); rows = rows-tests (is-accepted s c) ∙ rw (c .rows, c .held, c .apart, c .latest) refl }
+      let f = of-clauses c in
+      record { numbers = rw (c .clock, c .credit-a, c .credit-b) refl; others = others-pass f; rows = rows-tests (is-accepted s c) ∙ rw (c .rows, queues-pass f, c .held, c .apart, c .latest) refl }
 
-  pub passed : Passes s → sound s ≡ true
+  passed : tableSound s ≡ true → bestSound s ≡ true → Passes limits s → sound s ≡ true
   unfolding sound
-  passed p =
+  passed t b p =
       let n = numbers-hold (p .numbers) in
-      let f = of-frames (p .frames) in
-      let r = rows-hold (table-accepted s (p .table)) (p .rows) in
-      rw (p .table, n .0, n .1, n .2, p .best, names-hold f, queues-hold f, sizes-hold f, left-holds f, taken-hold f, r .0, r .1, r .2, r .3, young-hold f) refl
+      let r = rows-hold (table-accepted s t) (p .rows) in
+      let f = of-frames (p .others) (r .1) in
+      rw (t, n .0, n .1, n .2, b, names-hold f, queues-hold f, sizes-hold f, left-holds f, taken-hold f, r .0, r .2, r .3, r .4, young-hold f) refl
 
   -- a record that fails a test is broken
-  pub broken : (Passes s → ⊥) → false ≡ sound s
+  pub broken : (Passes limits s → ⊥) → false ≡ sound s
   broken fails = same-test false (sound s) (λ e. absurd (false≢true e)) (λ e. absurd (fails (passes e)))
 
   -- of a record that passes the others, the test of its rows decides
-  pub by-rows : tableSound s ≡ true → numbersTest s ≡ true → bestSound s ≡ true → framesTest (residences (s .table)) s ≡ true → rowsTest (residences (s .table)) s ≡ sound s
-  by-rows t n b f = same-test (rowsTest (residences (s .table)) s) (sound s) (λ r. passed record { table = t; numbers = n; best = b; frames = f; rows = r }) (λ e. passes e .rows)
+  pub by-rows : tableSound s ≡ true → bestSound s ≡ true → numbersTest s ≡ true → othersTest limits s ≡ true → rowsTest limits s ≡ sound s
+  by-rows t b n f = same-test (rowsTest limits s) (sound s) (λ r. passed t b record { numbers = n; others = f; rows = r }) (λ e. passes e .rows)

@@ -13,12 +13,15 @@ use Rattle.tally.specs.Rows.{heldTest}
 unfoldable pub numbersTest : State → Bool
 numbersTest s = clockSound s && (creditSound A s && creditSound B s)
 
--- All frames of a record, each by the test of its place and its row's limit.
-unfoldable pub framesTest : List ℕ → State → Bool
-framesTest limits s =
-    (allOf (frameTest A (s .table) limits (s .clock)) (s .a) && allOf (frameTest B (s .table) limits (s .clock)) (s .b))
-    && (allOf (bestTest (bestSize (s .table)) (s .clock)) (s .best) && onSending (sendingTest (s .table) limits (s .clock)) (s .wire))
+-- The best-effort frames that wait, and the frame on the wire.
+unfoldable pub othersTest : List ℕ → State → Bool
+othersTest limits s = allOf (bestTest (bestSize (s .table)) (s .clock)) (s .best) && onSending (sendingTest (s .table) limits (s .clock)) (s .wire)
 
--- The rows in use of a record: no instant after the clock, no row with more frames than it may have, two of them too near or the newest not at its last instant.
+-- The frames that wait in the class queues, each by the test of its place and its row's limit.
+unfoldable pub waitingTest : List ℕ → State → Bool
+waitingTest limits s = allOf (frameTest A (s .table) limits (s .clock)) (s .a) && allOf (frameTest B (s .table) limits (s .clock)) (s .b)
+
+-- The rows in use of a record: no instant after the clock, no frame in a class queue that may not be there, no row with more frames than it may have, two of them too near or the
+-- newest not at its last instant.
 unfoldable pub rowsTest : List ℕ → State → Bool
-rowsTest limits s = rowsTaken s && eachRow (heldTest (s .table) limits (s .last) (sending (s .wire) ++ (s .a ++ s .b))) s
+rowsTest limits s = rowsTaken s && (waitingTest limits s && eachRow (heldTest (s .table) limits (s .last) (sending (s .wire) ++ (s .a ++ s .b))) s)

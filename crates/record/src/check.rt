@@ -7,28 +7,30 @@ ghost use Rattle.table.specs.declared.Class.{Class};
 ghost use Rattle.table.specs.Limits.{D, mostRows, mostSlope, mostSize};
 ghost use Rattle.table.specs.Rows.{contents};
 ghost use Rattle.table.specs.Checks.{accepted};
-ghost use Rattle.planner.specs.Bound.{residences};
 ghost use Rattle.planner.specs.Opening.{opening};
 ghost use Rattle.planner.specs.Plan.{laneOf};
-ghost use Rattle.machine.specs.Limits.{classPlaces};
 ghost use Rattle.machine.specs.State.{instantOf, view};
 ghost use Rattle.machine.specs.Record.{between, notAfter, noneAfter, sound};
-ghost use Rattle.record.specs.Steps.{numbersTest, framesTest, rowsTest};
+ghost use Rattle.frames.specs.Tests.{limitsBy};
+ghost use Rattle.spacing.specs.Spread.{spreadTest};
+ghost use Rattle.tally.specs.Rows.{TestBy};
+ghost use Rattle.record.specs.Steps.{numbersTest, othersTest, rowsTest};
 use frames::tests::best_ok;
-use frames::tests::queue_ok;
 use frames::tests::wire_ok;
 use machine::LAST_CLOCK;
 use machine::Last;
 use machine::Port;
 use planner::Lane;
-use planner::acceptance::plan;
+use planner::acceptance::classes;
+use spacing::rows::all_spread;
 use table::Class;
 use table::ROWS;
 use table::Verdict;
 use table::wire::D;
 use table::wire::wire_size;
-use tally::rows::held_ok;
+use tally::Order;
 use tally::rows::no_row_frame;
+use tally::rows::order;
 
 // A credit is in range, from −low to high.
 fn within(credit: i64, low: u64, high: u64) -> bool
@@ -69,32 +71,19 @@ fn numbers_ok(p: Port, a: Lane, b: Lane) -> bool
     credit_ok(p.creditb, b)
 }
 
-// All frames of a record. A queue without a frame is not handed on.
-fn frames_ok(p: Port, limits: [u64; ROWS]) -> bool
-    ensures { λ r. ⌜ r ≡ framesTest limits (view p) ⌝ }
+// The best-effort frames that wait, and the frame on the wire. A queue without a frame is not handed on.
+fn others_ok(p: Port, a: Lane, b: Lane) -> bool
+    ensures { λ r. ⌜ r ≡ othersTest (limitsBy a b (p .table .rows)) (view p) ⌝ }
 {
-    let t = p.table;
     let clock = p.clock;
-    if 0 < p.a.count {
-        let a = p.a;
-        if !queue_ok(Class::A, a, t, limits, clock) {
-            return false;
-        }
-    }
-    if 0 < p.b.count {
-        let b = p.b;
-        if !queue_ok(Class::B, b, t, limits, clock) {
-            return false;
-        }
-    }
     if 0 < p.best.count {
         let best = p.best;
-        if !best_ok(best, wire_size(t.header.payload), clock) {
+        if !best_ok(best, wire_size(p.table.header.payload), clock) {
             return false;
         }
     }
     let w = p.wire;
-    wire_ok(w, t, limits, clock)
+    wire_ok(w, p.table, a, b, clock)
 }
 
 // A row's last instant is not after the clock.
@@ -123,56 +112,60 @@ fn instants_ok(last: [Last; ROWS], n: usize, clock: u64) -> bool
     true
 }
 
-// The rows in use of a record whose counts fit their places: no instant after the clock, and each row's frames as many, as far apart and as new as they may be.
-fn rows_ok(p: Port, limits: [u64; ROWS]) -> bool
+// The rows in use: no instant after the clock, each frame that waits as its row lets it, and each row's frames as many, as far apart and as new as they may be. Where the frames
+// stand in another order than calls leave them, that they are apart is still to be asked.
+fn rows_order(p: Port, a: Lane, b: Lane) -> Order
     requires { ⌜ p .table .count ≤ mostRows ⌝ }
-    requires { ⌜ (p .a .count ≤ classPlaces) × (p .b .count ≤ classPlaces) ⌝ }
-    ensures { λ r. ⌜ r ≡ rowsTest limits (view p) ⌝ }
+    ensures { λ r. ⌜ TestBy (rowsTest (limitsBy a b (p .table .rows)) (view p)) (spreadTest (p .wire) (p .a) (p .b) (p .table)) r ⌝ }
 {
-    let n = p.table.count;
     let last = p.last;
-    if !instants_ok(last, n, p.clock) {
-        return false;
+    if !instants_ok(last, p.table.count, p.clock) {
+        return Order::Broken;
     }
     let w = p.wire;
     if no_row_frame(w, p.a.count, p.b.count) {
-        return true;
+        return Order::Rising;
     }
-    let t = p.table;
-    let a = p.a;
-    let b = p.b;
-    held_ok(w, a, b, t, limits, last)
+    order(w, p.a, p.b, p.table, a, b, last, p.clock)
 }
 
-// A record whose table is accepted. A count above its queue's places fails with the frames: those without a place pass no test.
-fn parts_ok(p: Port, a: Lane, b: Lane, limits: [u64; ROWS]) -> bool
+// A record whose table is accepted, but for the order of its rows' frames.
+fn parts_order(p: Port, a: Lane, b: Lane) -> Order
     requires { ⌜ opening (contents (p .table)) ≡ accepted ⌝ }
     requires { ⌜ a ≡ laneOf Class.A (contents (p .table)) ⌝ }
     requires { ⌜ b ≡ laneOf Class.B (contents (p .table)) ⌝ }
-    requires { ⌜ limits ≡ residences (contents (p .table)) ⌝ }
-    ensures { λ r. ⌜ r ≡ sound (view p) ⌝ }
+    ensures { λ r. ⌜ TestBy (sound (view p)) (spreadTest (p .wire) (p .a) (p .b) (p .table)) r ⌝ }
 {
     if !numbers_ok(p, a, b) {
-        return false;
+        return Order::Broken;
     }
-    if !frames_ok(p, limits) {
-        return false;
+    if !others_ok(p, a, b) {
+        return Order::Broken;
     }
-    rows_ok(p, limits)
+    rows_order(p, a, b)
 }
 
-// Whether a record is sound. Its content may be any.
+// Whether a record is sound. Its content may be any. No row place behind the row count is looked at.
 pub fn is_sound(p: Port) -> bool
     ensures { λ r. ⌜ r ≡ sound (view p) ⌝ }
 {
     let t = p.table;
-    let made = plan(t);
+    let made = classes(t);
     let verdict = made.verdict;
     if let Verdict::Refused(_) = verdict {
         return false;
     }
     let a = made.a;
     let b = made.b;
-    let limits = made.residences;
-    parts_ok(p, a, b, limits)
+    let found = parts_order(p, a, b);
+    match found {
+        Order::Broken => false,
+        Order::Rising => true,
+        Order::Mixed => {
+            let w = p.wire;
+            let ina = p.a;
+            let inb = p.b;
+            all_spread(w, ina, inb, t)
+        }
+    }
 }

@@ -2,9 +2,11 @@
 mod Signs
 mod Lists
 mod Owned
+mod Carried
 mod Fields
 mod Tested
 mod Stands
+mod Kept
 mod Placing
 pub mod Trip
 pub mod Laws

@@ -38,7 +38,7 @@ pace-owned (Rated samples rate) vs e = (e .1 .1 .1 .1 .1 .0 .1, e .1 .1 .1 .1 .0
 row-owned : (r : Row) (vs : List Val) → Is (struct.row row.the-type) r vs → RowFits r
 row-owned r vs e = record { payload = e .1 .1 .1 .0 .1; pace = pace-owned (r .pace) _ (e .1 .1 .1 .1 .0); deadline = e .1 .1 .1 .1 .1 .0 .1 }
 
-frame-owned : (x : Frame) (vs : List Val) → Is (struct.row frame.the-type) x vs → FrameFits x
+pub frame-owned : (x : Frame) (vs : List Val) → Is (struct.row frame.the-type) x vs → FrameFits x
 frame-owned x vs e = record { source = e .1 .1 .0 .1; size = e .1 .1 .1 .0 .1; taken = e .1 .1 .1 .1 .0 .1 }
 
 abbrev LastFits : Last → Type 0
@@ -47,7 +47,7 @@ LastFits l = Word (l .taken)
 last-owned : (l : Last) (vs : List Val) → Is (struct.row last.the-type) l vs → LastFits l
 last-owned l vs e = e .1 .1 .1 .0 .1
 
-wire-owned : (w : Wire) (vs : List Val) → Is (enum.row wire.the-type) w vs → WireFits w
+pub wire-owned : (w : Wire) (vs : List Val) → Is (enum.row wire.the-type) w vs → WireFits w
 wire-owned Free vs e = tt
 wire-owned (Sending x left) vs e = (frame-owned x _ (e .1 .1 .1 .1 .0), e .1 .1 .1 .1 .1 .0 .1)
 

@@ -43,7 +43,7 @@ module _ {X : Type 0} (z : X) where
       rw (more, put-behind xs x n n h) (sym (ap (take n) (append-assoc xs (x ∷ []) (replicate n z))))
 
 -- ---- the parts of what was made of parts
-pub contents-back : (t : Contents) → length (t .rows) ≤ mostRows → contents (tableFrom t) ≡ t
+contents-back : (t : Contents) → length (t .rows) ≤ mostRows → contents (tableFrom t) ≡ t
 unfolding tableFrom
 contents-back t h =
     let few : length (t .rows) ≤ length (placed mostRows noRow (t .rows)) = rw (placed-length noRow mostRows (t .rows)) h in

@@ -268,18 +268,22 @@ module _ (p : State) (s : List ℕ) (fits : Fits p) (st : Stands p s) where
 
 -- ---- what stands, written again
 module _ (s : List ℕ) (b : Bytes s) where
-  queue-again : (q : List Frame) (k places : ℕ) → length q ≤ places → 8 * (k + 1 + frameWidth * length q) ≤ length s → Queued q s k → queueOver k places q s ≡ s
+  pub queue-again : (q : List Frame) (k places : ℕ) → length q ≤ places → 8 * (k + 1 + frameWidth * length q) ≤ length s → Queued q s k → queueOver k places q s ≡ s
   unfolding queueOver
   queue-again q k places few room r =
       rw (take-all places q few, held-same s b k (length q ∷ []) (omega arith) (r .count)) (each-same frameWords frameWidth (λ x. omega arith) s b (k + 1) q room (r .frames))
 
+  pub table-again : (p : State) → Placed p → Stands p s → recordSize ≤ length s → tableOver (p .table) s ≡ s
+  unfolding tableOver
+  table-again p few st room =
+      rw (held-same s b headStart (headWords (p .table)) (omega arith) (st .head), take-all mostRows (p .table .rows) (few .rows))
+      (each-same rowWords rowWidth row-wide s b rowsStart (p .table .rows) (omega (arith, few .rows)) (st .rows))
+
   pub stands-again : (p : State) → Placed p → Stands p s → recordSize ≤ length s → recordOver p s ≡ s
-  unfolding recordOver tableOver
+  unfolding recordOver
   stands-again p few st room =
       rw (
-        held-same s b headStart (headWords (p .table)) (omega arith) (st .head),
-        take-all mostRows (p .table .rows) (few .rows),
-        each-same rowWords rowWidth row-wide s b rowsStart (p .table .rows) (omega (arith, few .rows)) (st .rows),
+        table-again p few st room,
         held-same s b clockStart (numberWords p) (omega arith) (st .numbers),
         queue-again (p .a) queueaStart classPlaces (few .a) (omega (arith, few .a)) (st .a),
         queue-again (p .b) queuebStart classPlaces (few .b) (omega (arith, few .b)) (st .b),

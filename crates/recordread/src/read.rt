@@ -110,7 +110,7 @@ fn row_at(s: &[u8], k: usize) -> Row
     }
 }
 
-fn frame_at(s: &[u8], k: usize) -> Frame
+pub fn frame_at(s: &[u8], k: usize) -> Frame
     requires { ⌜ k + frameWidth ≤ recordWidth ⌝ }
     ensures { λ r. ⌜ r ≡ frameAt (now (s .entry)) k ⌝ }
 {

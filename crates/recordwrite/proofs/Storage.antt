@@ -16,8 +16,6 @@ use Rattle.table.specs.Limits.{mostRows}
 use Rattle.table.specs.Rows.{noRow, rowsOf, contents}
 use Rattle.table.proofs.Laws.{rows-length}
 use Rattle.machine.specs.declared.Frame.{Frame}
-use Rattle.machine.specs.declared.Wire.{Wire}
-use Rattle.machine.specs.declared.Wire.the-variants.{Free, Sending}
 use Rattle.machine.specs.declared.Last.{Last}
 use Rattle.machine.specs.declared.Port.{Port}
 use Rattle.machine.specs.Limits.{classPlaces, bestPlaces}
@@ -38,18 +36,6 @@ module _ (s : List ℕ) (k : ℕ) where
 
   pub row-put : (r : Row) {w : ℕ} {l t : List ℕ} → w ≡ classWord (r .class) → l ≡ stored s k (w ∷ r .payload ∷ r .deadline ∷ []) → t ≡ stored l (k + 3) (paceWords (r .pace)) → t ≡ stored s k (rowWords r)
   row-put r {w} z e f = rw z at (more s k (w ∷ r .payload ∷ r .deadline ∷ []) (paceWords (r .pace)) e refl f)
-
-  pub known-put : (x : Last) {l t : List ℕ} → x .known ≡ true → l ≡ stored s k (1 ∷ []) → t ≡ stored l (k + 1) (x .taken ∷ []) → t ≡ stored s k (lastWords (instantOf x))
-  known-put x z e f = rw z (two s k 1 (x .taken) e f)
-
-  pub unknown-put : (x : Last) {t : List ℕ} → x .known ≡ false → t ≡ stored s k (0 ∷ []) → t ≡ stored s k (lastWords (instantOf x))
-  unknown-put x z e = rw z e
-
-  pub free-put : {w : Wire} {t : List ℕ} → w ≡ Free → t ≡ stored s k (0 ∷ []) → t ≡ stored s k (wireWords w)
-  free-put z e = rw z e
-
-  pub sending-put : {w : Wire} {x : Frame} {left : ℕ} {l t u : List ℕ} → w ≡ Sending x left → l ≡ stored s k (1 ∷ []) → t ≡ stored l (k + 1) (frameWords x) → u ≡ stored t (k + 1 + frameWidth) (left ∷ []) → u ≡ stored s k (wireWords w)
-  sending-put {x = x} {left = left} z e f g = rw z (more s k (1 ∷ frameWords x) (left ∷ []) (more s k (1 ∷ []) (frameWords x) e refl f) (omega arith) g)
 
 pub head-put : (s : List ℕ) (x : Table) {l t u v z : List ℕ} → l ≡ stored s headStart (version ∷ []) → t ≡ stored l idleaPlace (x .header .idlea ∷ []) → u ≡ stored t idlebPlace (x .header .idleb ∷ []) → v ≡ stored u payloadPlace (x .header .payload ∷ []) → z ≡ stored v countPlace (x .count ∷ []) → z ≡ stored s headStart (headWords (contents x))
 head-put s x e f g h i =

@@ -1,25 +1,21 @@
 // A port's parts stored over a record's bytes. Words that belong to no part keep what they hold.
 ghost use mathlib.Core.Path.{_≡_};
-ghost use mathlib.Core.List.{[], _∷_};
 ghost use Prim.Native.Nat.{_+_, _*_, _≤_, min};
 ghost use lib.ListN.{length, take};
 ghost use Rattle.words.specs.Words.{stored, spread};
 ghost use Rattle.table.specs.Limits.{mostRows};
 ghost use Rattle.table.specs.Rows.{rowsOf, contents};
 ghost use Rattle.machine.specs.Limits.{classPlaces, bestPlaces};
-ghost use Rattle.machine.specs.State.{waiting, instantOf, instantsOf};
-ghost use Rattle.recordbytes.specs.Layout.{headStart, rowsStart, clockStart, lastStart, wireStart, paceWidth, rowWidth, frameWidth, lastWidth, recordSize};
-ghost use Rattle.recordbytes.specs.Record.{classWord, signedWord, headWords, paceWords, rowWords, frameWords, lastWords, wireWords, tableOver, queueOver};
+ghost use Rattle.machine.specs.State.{waiting, instantsOf};
+ghost use Rattle.recordbytes.specs.Layout.{headStart, rowsStart, lastStart, paceWidth, rowWidth, frameWidth, lastWidth, recordSize};
+ghost use Rattle.recordbytes.specs.Record.{classWord, headWords, paceWords, rowWords, lastWords, tableOver, queueOver};
 ghost use Rattle.recordwrite.specs.Written.{written};
 use machine::BEST_PLACES;
 use machine::BestQueue;
-use machine::Frame;
 use machine::Last;
 use machine::Port;
 use machine::Queue;
-use machine::Wire;
 use recordbytes::BEST_START;
-use recordbytes::CLOCK_START;
 use recordbytes::COUNT_PLACE;
 use recordbytes::FRAME_WIDTH;
 use recordbytes::HEAD_START;
@@ -34,31 +30,18 @@ use recordbytes::RECORD_SIZE;
 use recordbytes::ROW_WIDTH;
 use recordbytes::ROWS_START;
 use recordbytes::VERSION;
-use recordbytes::WIRE_START;
+use recordparts::parts::put_frame;
+use recordparts::parts::put_last;
+use recordparts::parts::put_numbers;
+use recordparts::parts::put_three;
+use recordparts::parts::put_wire;
+use recordparts::parts::put_word;
 use table::CLASS_PLACES;
 use table::Class;
 use table::Pace;
 use table::ROWS;
 use table::Row;
 use table::Table;
-
-// A word that has room.
-fn put_word(out: &mut [u8], k: usize, w: u64)
-    requires { ⌜ 8 * (k + 1) ≤ length (now out) ⌝ }
-    ensures { λ _. ⌜ now (out .exit) ≡ stored (now (out .entry)) k (w ∷ []) ⌝ }
-{
-    words::words::put_word(out, k, w)
-}
-
-// Three words, one behind the other.
-fn put_three(out: &mut [u8], k: usize, a: u64, b: u64, c: u64)
-    requires { ⌜ 8 * (k + 3) ≤ length (now out) ⌝ }
-    ensures { λ _. ⌜ now (out .exit) ≡ stored (now (out .entry)) k (a ∷ b ∷ c ∷ []) ⌝ }
-{
-    put_word(out, k, a);
-    put_word(out, k + 1, b);
-    put_word(out, k + 2, c);
-}
 
 // How many of n things have a place.
 fn placed(n: usize, places: usize) -> usize
@@ -74,16 +57,6 @@ fn class_word(class: Class) -> u64
         Class::A => 0,
         Class::B => 1,
     }
-}
-
-// Two's complement.
-fn signed_word(z: i64) -> u64
-    ensures { λ r. ⌜ r ≡ signedWord z ⌝ }
-{
-    if 0 <= z {
-        return z as u64;
-    }
-    18_446_744_073_709_551_615 - (-1 - z) as u64
 }
 
 // The version, the header and the row count.
@@ -150,21 +123,6 @@ fn put_table(out: &mut [u8], t: Table)
     put_rows(out, t);
 }
 
-// The clock and the credits.
-fn put_numbers(out: &mut [u8], clock: u64, a: i64, b: i64)
-    requires { ⌜ recordSize ≤ length (now out) ⌝ }
-    ensures { λ _. ⌜ now (out .exit) ≡ stored (now (out .entry)) clockStart (clock ∷ signedWord a ∷ signedWord b ∷ []) ⌝ }
-{
-    put_three(out, CLOCK_START, clock, signed_word(a), signed_word(b));
-}
-
-fn put_frame(out: &mut [u8], k: usize, frame: Frame)
-    requires { ⌜ 8 * (k + frameWidth) ≤ length (now out) ⌝ }
-    ensures { λ _. ⌜ now (out .exit) ≡ stored (now (out .entry)) k (frameWords frame) ⌝ }
-{
-    put_three(out, k, frame.source as u64, frame.size as u64, frame.taken);
-}
-
 fn put_queue(out: &mut [u8], k: usize, q: Queue)
     requires { ⌜ 8 * (k + 1 + frameWidth * classPlaces) ≤ length (now out) ⌝ }
     ensures { λ _. ⌜ now (out .exit) ≡ queueOver k classPlaces (waiting (q .count) (q .frames)) (now (out .entry)) ⌝ }
@@ -191,19 +149,6 @@ fn put_best(out: &mut [u8], k: usize, q: BestQueue)
     }
 }
 
-// A row's mark, and its instant if it has one.
-fn put_last(out: &mut [u8], k: usize, last: Last)
-    requires { ⌜ 8 * (k + lastWidth) ≤ length (now out) ⌝ }
-    ensures { λ _. ⌜ now (out .exit) ≡ stored (now (out .entry)) k (lastWords (instantOf last)) ⌝ }
-{
-    if last.known {
-        put_word(out, k, 1);
-        put_word(out, k + 1, last.taken);
-        return;
-    }
-    put_word(out, k, 0);
-}
-
 // The instants of the first `count` rows.
 fn put_lasts(out: &mut [u8], lasts: [Last; ROWS], count: usize)
     requires { ⌜ recordSize ≤ length (now out) ⌝ }
@@ -214,22 +159,6 @@ fn put_lasts(out: &mut [u8], lasts: [Last; ROWS], count: usize)
     while i < n {
         put_last(out, LAST_START + LAST_WIDTH * i, lasts[i]);
         i += 1;
-    }
-}
-
-fn put_wire(out: &mut [u8], w: Wire)
-    requires { ⌜ recordSize ≤ length (now out) ⌝ }
-    ensures { λ _. ⌜ now (out .exit) ≡ stored (now (out .entry)) wireStart (wireWords w) ⌝ }
-{
-    match w {
-        Wire::Free => {
-            put_word(out, WIRE_START, 0);
-        }
-        Wire::Sending(frame, left) => {
-            put_word(out, WIRE_START, 1);
-            put_frame(out, WIRE_START + 1, frame);
-            put_word(out, WIRE_START + 1 + FRAME_WIDTH, left as u64);
-        }
     }
 }
 

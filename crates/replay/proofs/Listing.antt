@@ -12,12 +12,10 @@ use Rattle.table.specs.Rows.{Contents}
 use Rattle.table.specs.Checks.{accepted, over}
 use Rattle.machine.specs.declared.Port.{Port}
 use Rattle.machine.specs.State.{fresh, view}
-use Rattle.machine.specs.Calls.{Call, answer}
+use Rattle.machine.specs.Calls.{Answer, answer, after}
 use Rattle.machine.specs.Run.{machine, answered}
-use Rattle.callbytes.specs.Calls.{answerSize, answerBytes}
+use Rattle.callbytes.specs.Calls.{answerSize, answerBytes, fronted}
 use Rattle.callbytes.proofs.Laws.{answer-length, answer-fits}
-use Rattle.turns.specs.declared.Stepped.{Stepped}
-use Rattle.turns.specs.Turns.{Steps}
 use Rattle.replay.specs.List.{callAt, lowest, countOf, callsOf, eventsOf, answersOf}
 
 -- ---- the lowest number that fails a test
@@ -71,11 +69,10 @@ part a r n e =
 pub room : (xs : List ℕ) (i n : ℕ) → i < n → answerSize * n ≤ length xs → answerSize ≤ length (take (length xs - answerSize * i) (drop (answerSize * i) xs))
 room xs i n h l = rw (length-take, length-drop) (omega arith)
 
-pub same-size : (xs : List ℕ) (at : ℕ) (p : Port) (c : Call) (r : Stepped) (ys : List ℕ) → answerSize ≤ length (take (length xs - at) (drop at xs)) → Steps p c r (take (length xs - at) (drop at xs)) ys → length (take at xs ++ (ys ++ drop (length xs - at) (drop at xs))) ≡ length xs
-same-size xs at p c r ys h s =
-    let a = answer (view p) c in
+pub same-size : (xs : List ℕ) (at : ℕ) (a : Answer) (ys : List ℕ) → answerSize ≤ length (take (length xs - at) (drop at xs)) → ys ≡ fronted (answerBytes a) (take (length xs - at) (drop at xs)) → length (take at xs ++ (ys ++ drop (length xs - at) (drop at xs))) ≡ length xs
+same-size xs at a ys h w =
     let part = take (length xs - at) (drop at xs) in
-    let l : length ys ≡ length part = ap length (s .bytes ∙ answer-fits a part h) ∙ length-append (answerBytes a) (drop answerSize part) ∙ rw (answer-length a, length-drop) (omega arith) in
+    let l : length ys ≡ length part = ap length (w ∙ answer-fits a part h) ∙ length-append (answerBytes a) (drop answerSize part) ∙ rw (answer-length a, length-drop) (omega arith) in
     let e = drop (length xs - at) (drop at xs) in
     length-append (take at xs) (ys ++ e) ∙ omega (arith, l, length-append ys e, length-take at xs, length-drop at xs, length-take (length xs - at) (drop at xs), length-drop (length xs - at) (drop at xs))
 
@@ -88,16 +85,15 @@ pub begins : (t : Contents) (calls before : List ℕ) (p : Port) → view p ≡ 
 unfolding callsOf
 begins t calls before p e = record { port = e; bytes = refl }
 
-pub goes-on : (t : Contents) (calls before : List ℕ) (i : ℕ) (p : Port) (now : List ℕ) (r : Stepped) (ys : List ℕ) → answerSize ≤ length (take (length now - answerSize * i) (drop (answerSize * i) now)) → Sofar t calls before i p now → Steps p (callAt calls i) r (take (length now - answerSize * i) (drop (answerSize * i) now)) ys → Sofar t calls before (i + 1) (r .port) (take (answerSize * i) now ++ (ys ++ drop (length now - answerSize * i) (drop (answerSize * i) now)))
+pub goes-on : (t : Contents) (calls before : List ℕ) (i : ℕ) (p q : Port) (a : Answer) (now ys : List ℕ) → answerSize ≤ length (take (length now - answerSize * i) (drop (answerSize * i) now)) → Sofar t calls before i p now → a ≡ answer (view p) (callAt calls i) → view q ≡ after (view p) (callAt calls i) → ys ≡ fronted (answerBytes a) (take (length now - answerSize * i) (drop (answerSize * i) now)) → Sofar t calls before (i + 1) q (take (answerSize * i) now ++ (ys ++ drop (length now - answerSize * i) (drop (answerSize * i) now)))
 unfolding callsOf
-goes-on t calls before i p now r ys h f s =
+goes-on t calls before i p q a now ys h f e g w =
     let es = answered t (callsOf calls i) in
-    let a = answer (machine t es) (callAt calls i) in
+    let is : a ≡ answer (machine t es) (callAt calls i) = rw (f .port) at e in
     let part = take (length now - answerSize * i) (drop (answerSize * i) now) in
-    let written : ys ≡ answerBytes a ++ drop answerSize part = rw (f .port) at (s .bytes) ∙ answer-fits a part h in
     record {
-      port = rw (add-one, ← f .port) (s .gives .port);
-      bytes = rw add-one (placed (answersOf es) (answerBytes a) now (answers-length t calls i) (f .bytes) written);
+      port = rw (add-one, ← f .port) g;
+      bytes = rw (add-one, ← is) (placed (answersOf es) (answerBytes a) now (answers-length t calls i) (f .bytes) (w ∙ answer-fits a part h));
     }
   where
     placed : (w a now : List ℕ) → length w ≡ answerSize * i → now ≡ w ++ drop (answerSize * i) before → ys ≡ a ++ drop answerSize (take (length now - answerSize * i) (drop (answerSize * i) now)) → take (answerSize * i) now ++ (ys ++ drop (length now - answerSize * i) (drop (answerSize * i) now)) ≡ (w ++ a) ++ drop (answerSize * suc i) before

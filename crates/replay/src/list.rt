@@ -8,13 +8,22 @@ ghost use Rattle.replay.specs.List.{askedAt, lowest, countOf, listCheck,
 ghost use Rattle.replay.specs.Steps.{Listed};
 use callbytes::Asked;
 use callbytes::answers::ANSWER_SIZE;
+use callbytes::answers::write_reply;
 use callbytes::calls::CALL_SIZE;
 use callbytes::calls::is_readable;
 use callbytes::calls::read_call;
 use codes::code;
+use effects::queues::best_pushed;
+use effects::queues::best_shifted;
+use effects::queues::pushed;
+use effects::queues::shifted;
+use effects::records::settled;
+use machine::Change;
+use machine::Last;
 use machine::Port;
+use record::check::is_sound;
 use turns::opened::open_file;
-use turns::turn::step;
+use turns::turn::effect;
 
 // The call of number i.
 fn asked_at(calls: &[u8], i: usize) -> Asked
@@ -70,8 +79,49 @@ fn steps(port: Port, calls: &[u8], out: &mut [u8])
     while i < count {
         let asked = asked_at(calls, i);
         let at = ANSWER_SIZE * i;
-        let s = step(p, asked, &mut out[at..]);
-        p = s.port;
+        let whole = is_sound(p);
+        let e = effect(p, whole, asked);
+        let reply = e.reply;
+        write_reply(&mut out[at..], reply);
+        let change = e.change;
+        match change {
+            Change::None => {}
+            Change::LeftA => {
+                let a = shifted(p.a);
+                p.a = a;
+            }
+            Change::LeftB => {
+                let b = shifted(p.b);
+                p.b = b;
+            }
+            Change::LeftBest => {
+                let best = best_shifted(p.best);
+                p.best = best;
+            }
+            Change::JoinedA(f) => {
+                let row = f.source as usize;
+                p.last[row] = Last {
+                    known: true,
+                    taken: f.taken,
+                };
+                let a = pushed(p.a, f);
+                p.a = a;
+            }
+            Change::JoinedB(f) => {
+                let row = f.source as usize;
+                p.last[row] = Last {
+                    known: true,
+                    taken: f.taken,
+                };
+                let b = pushed(p.b, f);
+                p.b = b;
+            }
+            Change::JoinedBest(f) => {
+                let best = best_pushed(p.best, f);
+                p.best = best;
+            }
+        }
+        p = settled(p, e);
         i += 1;
     }
 }

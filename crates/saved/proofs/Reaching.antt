@@ -15,29 +15,35 @@ use Rattle.planner.proofs.Laws.{accepted-if}
 use Rattle.tablefile.specs.Reading.{readFile}
 use Rattle.tablefile.proofs.Laws.{read-filled}
 use Rattle.machine.specs.declared.Port.{Port}
+use Rattle.machine.specs.declared.Reply.{Reply}
+use Rattle.machine.specs.declared.Reply.the-variants.{Taken, Passed, Refused}
+use Rattle.machine.specs.declared.Change.{Change}
+use Rattle.machine.specs.declared.Change.the-variants.{None, LeftA, LeftB, LeftBest, JoinedA, JoinedB, JoinedBest}
+use Rattle.machine.specs.declared.Effect.{Effect}
 use Rattle.machine.specs.Limits.{noMark}
 use Rattle.machine.specs.State.{State, fresh, view, portOf, Placed}
 use Rattle.machine.specs.Calls as machines
-use Rattle.machine.specs.Calls.{Call, Answer, taken, passed, denied, answer, Keeps, Gives}
+use Rattle.machine.specs.Calls.{Call, Answer, taken, passed, denied, Keeps, Gives}
+use Rattle.machine.specs.Effects.{replyAnswer, changedBy, carriedOut, Room, Stays, StaysBy, Comes}
 use Rattle.machine.specs.Run.{Event, event, Run, called}
 use Rattle.machine.proofs.Theorem.{every-run, run-placed}
-use Rattle.words.specs.Words.{flat, wordBytes}
+use Rattle.words.specs.Words.{Bytes, flat, wordBytes}
 use Rattle.codes.specs.Codes.{codeOf, fileCheck}
 use Rattle.codes.proofs.Laws.{first-one, kept, opened-accepted}
 use Rattle.recordbytes.specs.declared.Reading.{Reading}
 use Rattle.recordbytes.specs.Layout.{recordSize}
 use Rattle.recordbytes.specs.Record.{recordOver, stateOf, isRecord}
-use Rattle.recordbytes.specs.Fits.{Numbered}
+use Rattle.recordbytes.specs.Fits.{Numbered, Fits}
 use Rattle.recordbytes.specs.Port.{tableFrom, portFrom, readRecord}
-use Rattle.recordbytes.proofs.Laws.{named-placed, long, placed-are, contents-back}
-use Rattle.recordbytes.proofs.Trip.{reading-written, same-parts}
+use Rattle.recordbytes.proofs.Laws.{named-placed, long, placed-are, EffectFits, carried-fits}
+use Rattle.recordbytes.proofs.Trip.{reading-written, read-fits, same-parts}
 use Rattle.recordwrite.specs.Written.{written}
 use Rattle.recordwrite.proofs.Laws.{written-fits}
 use Rattle.callbytes.specs.Calls.{answerSize, readCall, isReadable, callOf, answerBytes, fronted, isDenied}
 use Rattle.callbytes.proofs.Laws.{answer-length, answer-fits}
+use Rattle.effects.proofs.Laws.{stays, carried-none, carries}
 use Rattle.turns.specs.declared.FilePort.{FilePort}
-use Rattle.turns.specs.declared.Stepped.{Stepped}
-use Rattle.turns.specs.Turns.{FileOpened, Steps}
+use Rattle.turns.specs.Turns.{FileOpened}
 use Rattle.turns.proofs.Laws.{start}
 use Rattle.saved.specs.Saved.{Reached, openCheck, cleared, OpenedInto, callCheck, answerOn, bytesBy, bytesAfter, Called}
 
@@ -55,10 +61,10 @@ same-table : (p : Port) → tableFrom (contents (p .table)) ≡ p .table → por
 same-table p e = table-from (view p) ∙ ap tableFrom (view-table p) ∙ e
 
 -- bytes that a port was written over hold it: if the port that is handed out for them is led to by a list, they are
-holds : {t : Table} {es : List Event} (p : Port) (s : List ℕ) → Placed (view p) → Numbered (view p) → recordSize ≤ length s → Run t es (portFrom (view p)) → Reached t es (recordOver (view p) s)
-holds {t} {es} p s few small room run =
-    let back = reading-written (view p) s (record { placed = few; numbered = small }) room in
-    record { record-bytes = back .record-bytes; run = rw (back .port) run; demand3 = rw (back .port) (every-run t es (portFrom (view p)) run) }
+holds : {t : Table} {es : List Event} (n : State) (s : List ℕ) → Fits n → recordSize ≤ length s → Run t es (portFrom n) → Reached t es (recordOver n s)
+holds {t} {es} n s fits room run =
+    let back = reading-written n s fits room in
+    record { record-bytes = back .record-bytes; run = rw (back .port) run; demand3 = rw (back .port) (every-run t es (portFrom n) run) }
 
 -- ---- opening
 cleared-length : (s : List ℕ) → recordSize ≤ length s → length (cleared s) ≡ length s
@@ -98,7 +104,7 @@ module _ (file before : List ℕ) where
         record {
           code = z ∙ rw ok refl;
           buffer = rw ok (e ∙ ap (λ (s : State). recordOver s (cleared before)) (made .fresh));
-          reached = λ _. rw e (holds (o .port) (cleared before) few small (rw n room) run);
+          reached = λ _. rw e (holds (view (o .port)) (cleared before) (record { placed = few; numbered = small }) (rw n room) run);
         }
       where
         few : Placed (view (o .port))
@@ -110,10 +116,19 @@ free p q taken e = tt
 free p q (passed n x) e = tt
 free p q (denied n l) e = absurd (true≢false e)
 
-kept-whole : (p q : Port) (a : Answer) → isDenied a ≡ true → Keeps a p q → q ≡ p
-kept-whole p q taken e k = absurd (false≢true e)
-kept-whole p q (passed n x) e k = absurd (false≢true e)
-kept-whole p q (denied n l) e k = k
+refused-stays : (r : Reply) (p : Port) (e : Effect) → isDenied (replyAnswer r) ≡ true → StaysBy r p e → Stays p e
+refused-stays Taken p e h k = absurd (false≢true h)
+refused-stays (Passed n x) p e h k = absurd (false≢true h)
+refused-stays (Refused d) p e h k = k
+
+table-stays : (c : Change) (s : State) → changedBy c s .table ≡ s .table
+table-stays None s = refl
+table-stays LeftA s = refl
+table-stays LeftB s = refl
+table-stays LeftBest s = refl
+table-stays (JoinedA f) s = refl
+table-stays (JoinedB f) s = refl
+table-stays (JoinedBest f) s = refl
 
 bytes-new : (a : Answer) (s : State) (old : List ℕ) → isDenied a ≡ false → bytesBy a s old ≡ recordOver s old
 bytes-new taken s old e = refl
@@ -168,7 +183,7 @@ module _ (saved call before : List ℕ) where
               reached = λ _ t es h. absurd (true≢false (sym (h .record-bytes) ∙ bad));
             }
 
-        module _ (yes : r .readable ≡ true) {s : Stepped} {after : List ℕ} (step : Steps (r .port) c s before after) where
+        module _ (yes : r .readable ≡ true) {e : Effect} (comes : Comes (r .port) c e) {after : List ℕ} (put : after ≡ fronted (answerBytes (replyAnswer (e .reply))) before) where
           good : isRecord saved ≡ true
           good = sym tested ∙ yes
 
@@ -181,46 +196,41 @@ module _ (saved call before : List ℕ) where
           parts = ap view named ∙ same-parts (stateOf saved) (named-placed saved good)
 
           abbrev a : Answer
-          a = answer (view (r .port)) c
-
-          abbrev next : State
-          next = machines.after (view (r .port)) c
+          a = replyAnswer (e .reply)
 
           is : a ≡ answerOn saved c
           unfolding answerOn
-          is = rw (good, ← parts) refl
+          is = comes .answer ∙ rw (good, ← parts) refl
 
           longer : {t : Table} {es : List Event} {q : Port} → Reached t es saved → Gives (r .port) c a q → Run t (event c a ∷ es) q
           longer h g = called (rw (← named) at (h .run)) g
 
-          pub call-refused : s .refused ≡ true → Called saved saved call before after 0
+          pub call-refused : isDenied a ≡ true → Called saved saved call before after 0
           unfolding bytesAfter
-          call-refused e =
-              let denial : isDenied a ≡ true = sym (step .refused) ∙ e in
-              let same : s .port ≡ r .port = kept-whole (r .port) (s .port) a denial (step .gives .kept) in
+          call-refused denial =
+              let still = refused-stays (e .reply) (r .port) e denial (comes .kept) in
+              let g : Gives (r .port) c a (r .port) = carries comes (rw (stays (r .port) e still) at (carried-none (r .port) e (still .change))) in
               record {
                 code = rw ready refl;
-                answer = answered a is (step .bytes);
+                answer = answered a is put;
                 port = rw (ready, ← is) (sym (bytes-old a _ saved denial));
-                reached = λ _ t es h. rw (← is) (record { record-bytes = good; run = rw (← named) (longer h (rw same at (step .gives))); demand3 = rw (← named) (every-run t (event c a ∷ es) (r .port) (longer h (rw same at (step .gives)))) });
+                reached = λ _ t es h. rw (← is) (record { record-bytes = good; run = rw (← named) (longer h g); demand3 = rw (← named) (every-run t (event c a ∷ es) (r .port) (longer h g)) });
               }
 
-          -- the port that is handed out for the new bytes is what the call gives, too
-          pub call-done : {kept : List ℕ} → s .refused ≡ false → Numbered (view (s .port)) → kept ≡ written (s .port) saved → Called saved kept call before after 0
+          -- the port that is handed out for the new bytes is what the call gives
+          pub call-done : {kept : List ℕ} → isDenied a ≡ false → Bytes saved → EffectFits e → (isRecord saved ≡ true → Room (e .change) (stateOf saved) → kept ≡ recordOver (carriedOut e (stateOf saved)) saved) → Called saved kept call before after 0
           unfolding bytesAfter
-          call-done {kept} e small w =
-              let on : isDenied a ≡ false = sym (step .refused) ∙ e in
-              let whole : kept ≡ recordOver (view (s .port)) saved = w ∙ written-fits saved (s .port) (long saved good) in
+          call-done {kept} on b f w =
+              let n = carriedOut e (stateOf saved) in
+              let places : Room (e .change) (stateOf saved) = rw parts at (comes .room) in
+              let fits : Fits n = carried-fits (stateOf saved) (read-fits saved b good) e f places in
+              let whole : kept ≡ recordOver n saved = w good places in
+              let next : n ≡ machines.after (stateOf saved) c = rw parts at (comes .port) in
+              let table : portFrom n .table ≡ r .port .table = table-from n ∙ rw (table-stays (e .change) (stateOf saved), named) (sym (table-from (stateOf saved))) in
+              let g : Gives (r .port) c a (portFrom n) = record { answer = comes .answer; port = same-parts n (fits .placed) ∙ rw (← parts) (comes .port); table = table; kept = free _ _ a on } in
               record {
                 code = rw ready refl;
-                answer = answered a is (step .bytes);
-                port = rw (ready, ← is) (whole ∙ (ap (λ (x : State). recordOver x saved) (step .gives .port ∙ ap (λ (x : State). machines.after x c) parts) ∙ sym (bytes-new a _ saved on)));
-                reached = λ _ t es h.
-                    let run = longer h (step .gives) in
-                    let few = run-placed run in
-                    let own : tableFrom (contents (r .port .table)) ≡ r .port .table =
-                    rw (named, table-from (stateOf saved)) (ap tableFrom (contents-back (stateOf saved .table) (named-placed saved good .rows))) in
-                    let table : portFrom (view (s .port)) .table ≡ r .port .table = table-from (view (s .port)) ∙ ap tableFrom (view-table (s .port) ∙ ap contents (step .gives .table)) ∙ own in
-                    let g : Gives (r .port) c a (portFrom (view (s .port))) = record { answer = refl; port = same-parts (view (s .port)) few ∙ step .gives .port; table = table; kept = free _ _ a on } in
-                    rw (← is, whole) (holds (s .port) saved few small (long saved good) (longer h g));
+                answer = answered a is put;
+                port = rw (ready, ← is) (whole ∙ (ap (λ (x : State). recordOver x saved) next ∙ sym (bytes-new a _ saved on)));
+                reached = λ _ t es h. rw (← is, whole) (holds n saved fits (long saved good) (longer h g));
               }

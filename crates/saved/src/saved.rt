@@ -6,15 +6,18 @@ ghost use Rattle.recordbytes.specs.Layout.{recordSize};
 ghost use Rattle.saved.specs.Saved.{cleared, OpenedInto, Called};
 use callbytes::answers::ANSWER_SIZE;
 use callbytes::answers::put_answer;
+use callbytes::answers::write_reply;
 use callbytes::calls::is_readable;
 use callbytes::calls::read_call;
 use codes::code;
 use machine::NO_MARK;
+use record::check::is_sound;
 use recordbytes::RECORD_SIZE;
+use recordchange::change::change_record;
 use recordread::read::read_record;
 use recordwrite::write::write_record;
 use turns::opened::open_file;
-use turns::turn::step;
+use turns::turn::effect;
 
 // Zeros in as many bytes as a record has.
 fn clear(out: &mut [u8])
@@ -64,11 +67,12 @@ pub fn call(saved: &mut [u8], call: &[u8], answer: &mut [u8]) -> u64
         return 0;
     }
     let p = l.port;
-    let s = step(p, asked, answer);
-    let refused = s.refused;
+    let whole = is_sound(p);
+    let e = effect(p, whole, asked);
+    let reply = e.reply;
+    let refused = write_reply(answer, reply);
     if !refused {
-        let q = s.port;
-        write_record(saved, q);
+        change_record(saved, e);
     }
     0
 }

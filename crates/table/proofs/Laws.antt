@@ -27,6 +27,7 @@ use Rattle.table.proofs.Shape.{row-here}
 -- a table record's places and rows, and quotients rounded up
 pub use Rattle.table.proofs.Shape.{places, rows-length, rows-are, row-in-place, next-row, no-row}
 pub use Rattle.table.proofs.Search.{Passed, none-yet, fails-here, passes-here, all-passed}
+pub use Rattle.table.proofs.Ranged.{count-right, count-low, count-high, header-wrong, row-wrong, all-right}
 pub use Rattle.table.proofs.Division.{ceil-covers, ceil-most, ceil-above, ceil-le}
 
 -- ---- outcomes: a refusal is no acceptance, and each verdict has an outcome of its own

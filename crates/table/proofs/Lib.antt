@@ -2,5 +2,6 @@
 mod Division
 mod Shape
 mod Search
+mod Ranged
 pub mod Laws
 pub mod Answers

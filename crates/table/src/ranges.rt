@@ -15,7 +15,7 @@ use crate::Table;
 use crate::Verdict;
 
 // The place of a header value where rows are places.
-const HEADER_PLACE: usize = 32;
+pub const HEADER_PLACE: usize = 32;
 
 // The largest idle slope of a class, and of both together.
 pub const MOST_SLOPE: u32 = 750_000;
@@ -36,7 +36,7 @@ const LEAST_RATE: u32 = 1000;
 
 const MOST_RATE: u32 = 200_000;
 
-fn header_ok(h: Header) -> bool
+pub fn header_ok(h: Header) -> bool
     ensures { λ r. ⌜ r ≡ headerOk h ⌝ }
 {
     if MOST_SLOPE < h.idlea {
@@ -100,7 +100,7 @@ pub fn deadline_ok(deadline: u32) -> bool
     is_within(1, MOST_DEADLINE, deadline)
 }
 
-fn row_ok(row: Row) -> bool
+pub fn row_ok(row: Row) -> bool
     ensures { λ r. ⌜ r ≡ rowOk row ⌝ }
 {
     let pace = row.pace;

@@ -1,6 +1,6 @@
 -- Laws that belong to no one function. `Laws` is what the crates above may cite.
-mod Listed
 mod Notes
+mod Turns
 mod Told
-mod Numbers
+mod Quiet
 pub mod Laws

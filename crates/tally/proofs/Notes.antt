@@ -1,69 +1,48 @@
--- Frames noted with their rows: one frame, a queue place by place, and one list of frames behind another.
-use Prim.Native.Nat.{ℕ, suc, _+_, _≤_, _<_}
+-- What is noted of the rows' frames, one frame after the other: how many there are, which is the newest, and that frames in turn are a period apart.
+use Prim.Native.Nat.{ℕ, suc, _+_, _-_, _≤_, _<_, max}
 use mathlib.Core.Bool.{Bool, true, false, cond}
-use mathlib.Core.List.{List, [], _∷_, _++_}
-use mathlib.Core.Path.{_≡_, refl, sym, _∙_, ap}
-use native.Mathlib.Numerals.{add-one}
+use mathlib.Core.List.{List, [], _∷_, _++_, append-nil}
+use mathlib.Core.Path.{_≡_, refl, sym, _∙_}
 use native.Mathlib.Omega.{arith}
 use lib.Dec.{eqb}
-use lib.ListN.{length, getD, set, take, drop, replicate, length-take, drop-of-length-le, getD-replicate}
+use lib.ListN.{length, getD, set, replicate, length-set, length-append, length-replicate, getD-replicate}
 use lib.Seq.{getD-set-same, getD-set-other}
-use borrow.Author.Tests.{eqb-true, eqb-false, ne-eqb}
-use mir.Val.{Val}
-use denote.Laws.{Is}
-use denote.Array.{Array}
-use denote.Struct.Declared as Declared
-use Rattle.table.specs.declared.Row.{Row}
+use borrow.Author.Tests.{eqb-true, eqb-false, ne-eqb, leb-true, le-leb}
+use Rattle.table.specs.declared.Table.{Table}
 use Rattle.table.specs.Limits.{mostRows}
 use Rattle.table.specs.Wire.{periodOf}
 use Rattle.table.specs.Rows.{noRow}
+use Rattle.table.proofs.Laws as table
 use Rattle.machine.specs.declared.Frame.{Frame}
-use Rattle.machine.specs.Record.{takenIn}
+use Rattle.machine.specs.declared.Wire.{Wire}
+use Rattle.machine.specs.declared.Wire.the-variants.{Free, Sending}
+use Rattle.machine.specs.Record.{takenIn, sending, apart, apartFrom, spaced, newestOf}
 use Rattle.machine.proofs.FromSound.{taken-append}
-use Rattle.machine.proofs.Places.{zeroFrame, next}
-use Rattle.tally.specs.declared.Seen.{Seen}
-use Rattle.tally.specs.Steps.{unseen, noSeen, noted, seenFrom, Few, Noted}
-use Rattle.tally.proofs.Seen as seen
+use Rattle.tally.specs.Steps.{inTurn, Notes, Apart}
 
--- what owning a list of notes tells of its places
-pub seen-places : (ls : List Seen) (vs : List Val) → Is (Array (Declared.row seen.the-type) mostRows) ls vs → length ls ≡ mostRows
-seen-places ls vs p = p .1 .0 .1
+-- ---- one instant behind others
+newest-append : (xs ys : List ℕ) → newestOf (xs ++ ys) ≡ max (newestOf xs) (newestOf ys)
+newest-append [] ys = omega arith
+newest-append (x ∷ xs) ys = omega (arith, newest-append xs ys)
 
--- ---- one list of instants behind another
-pub count-of : (p : ℕ) (s : Seen) (xs : List ℕ) → seenFrom p s xs .count ≡ s .count + length xs
-count-of p s [] = omega arith
-count-of p s (x ∷ xs) = omega (arith, count-of p (noted p s x) xs)
+-- a period or more behind the newest of instants that are a period apart
+far-behind : (p y x : ℕ) (ys : List ℕ) → y + p ≤ x → apartFrom p y ys ≡ true → apartFrom p y (ys ++ x ∷ []) ≡ true
+far-behind p y x [] h e = rw (le-leb p ((y - x) + (x - y)) (omega arith)) refl
+far-behind p y x (z ∷ zs) h e = let q = table.and-true (apart p y z) (apartFrom p y zs) e in rw (q .0) (far-behind p y x zs h (q .1))
 
-pub seen-append : (p : ℕ) (s : Seen) (xs ys : List ℕ) → seenFrom p s (xs ++ ys) ≡ seenFrom p (seenFrom p s xs) ys
-seen-append p s [] ys = refl
-seen-append p s (x ∷ xs) ys = seen-append p (noted p s x) xs ys
+behind : (p x : ℕ) (ys : List ℕ) → newestOf ys + p ≤ x → spaced p ys ≡ true → spaced p (ys ++ x ∷ []) ≡ true
+behind p x [] h e = refl
+behind p x (y ∷ ys) h e =
+    let q = table.and-true (apartFrom p y ys) (spaced p ys) e in
+    rw (far-behind p y x ys (omega arith) (q .0)) (behind p x ys (omega arith) (q .1))
 
-pub both-noted : (rows : List Row) (fs gs : List Frame) (before between after : List Seen) → Noted rows fs before between → Noted rows gs between after → Noted rows (fs ++ gs) before after
-both-noted rows fs gs before between after n m k h =
-    m k h ∙ ap (λ (s : Seen). seenFrom (periodOf (getD rows k noRow)) s (takenIn k gs)) (n k h) ∙ sym (rw (taken-append k fs gs) (seen-append (periodOf (getD rows k noRow)) (getD before k noSeen) (takenIn k fs) (takenIn k gs)))
+in-turn : (p x : ℕ) (ys : List ℕ) → inTurn p (length ys) (newestOf ys) x ≡ true → spaced p ys ≡ true → spaced p (ys ++ x ∷ []) ≡ true
+unfolding inTurn
+in-turn p x [] t e = refl
+in-turn p x (y ∷ ys) t e = behind p x (y ∷ ys) (leb-true _ _ (rw (ne-eqb (suc (length ys)) 0 (λ z. absurd (omega arith))) at t)) e
 
--- ---- one frame
-module _ (rows : List Row) (f : Frame) (before : List Seen) where
-  pub noted-here : length before ≡ mostRows → f .source < mostRows → {v : Seen} → v ≡ noted (periodOf (getD rows (f .source) noRow)) (getD before (f .source) noSeen) (f .taken) → Noted rows (f ∷ []) before (set before (f .source) v)
-  noted-here long h {v} e k g = go (eqb (f .source) k) refl
-    where
-      go : (b : Bool) → eqb (f .source) k ≡ b → getD (set before (f .source) v) k noSeen ≡ seenFrom (periodOf (getD rows k noRow)) (getD before k noSeen) (cond (eqb (f .source) k) (f .taken ∷ []) [])
-      go true q = rw (q, ← eqb-true (f .source) k q) (getD-set-same before (f .source) v noSeen (rw long h) ∙ e)
-      go false q = rw q (getD-set-other before (f .source) k v noSeen (λ z. eqb-false (f .source) k q (sym z)))
-
-  pub not-noted : mostRows ≤ f .source → Noted rows (f ∷ []) before before
-  not-noted h k g = rw (ne-eqb (f .source) k (λ z. absurd (omega arith))) refl
-
--- no row has many more after one frame
-pub one-few : (rows : List Row) (f : Frame) (before after : List Seen) (n : ℕ) → Noted rows (f ∷ []) before after → Few n before → Few (n + 1) after
-one-few rows f before after n noted few k h = rw (noted k h) (go (eqb (f .source) k))
-  where
-    go : (b : Bool) → seenFrom (periodOf (getD rows k noRow)) (getD before k noSeen) (cond b (f .taken ∷ []) []) .count ≤ n + 1
-    go true = omega (arith, few k h)
-    go false = omega (arith, few k h)
-
--- nor after several
-taken-few : (k : ℕ) (fs : List Frame) → length (takenIn k fs) ≤ length fs
+-- a row has no more frames than there are
+pub taken-few : (k : ℕ) (fs : List Frame) → length (takenIn k fs) ≤ length fs
 taken-few k [] = omega arith
 taken-few k (f ∷ fs) = go (eqb (f .source) k) (taken-few k fs)
   where
@@ -71,25 +50,61 @@ taken-few k (f ∷ fs) = go (eqb (f .source) k) (taken-few k fs)
     go true h = omega arith
     go false h = omega arith
 
-pub more-few : (rows : List Row) (fs : List Frame) (before after : List Seen) (n m : ℕ) → Noted rows fs before after → Few n before → length fs ≤ m → Few (n + m) after
-more-few rows fs before after n m noted few h k g =
-    rw (noted k g) (omega (arith, count-of (periodOf (getD rows k noRow)) (getD before k noSeen) (takenIn k fs), taken-few k fs, few k g))
+-- no frame yet
+pub none-noted : Notes [] (replicate mostRows 0) (replicate mostRows 0)
+none-noted =
+    record {
+      places = (length-replicate {A = ℕ} mostRows 0, length-replicate {A = ℕ} mostRows 0);
+      newest = λ k h. getD-replicate {A = ℕ} mostRows k 0 0 h;
+      counts = λ k h. getD-replicate {A = ℕ} mostRows k 0 0 h;
+    }
 
-pub none-few : Few 0 (replicate mostRows unseen)
-none-few k h = rw (getD-replicate {A = Seen} mostRows k unseen noSeen h) (omega arith)
+-- ---- one frame more, of a row or of none
+module _ (fs : List Frame) (xs ns : List ℕ) (n : Notes fs xs ns) (f : Frame) where
+  pub noted-here : f .source < mostRows → Notes (fs ++ f ∷ []) (set xs (f .source) (max (getD xs (f .source) 0) (f .taken))) (set ns (f .source) (getD ns (f .source) 0 + 1))
+  noted-here h =
+      record {
+        places = (length-set xs _ _ ∙ n .places .0, length-set ns _ _ ∙ n .places .1);
+        newest = λ k g. newest k g (eqb (f .source) k) refl;
+        counts = λ k g. counts k g (eqb (f .source) k) refl;
+      }
+    where
+      newest : (k : ℕ) → k < mostRows → (b : Bool) → eqb (f .source) k ≡ b → getD (set xs (f .source) (max (getD xs (f .source) 0) (f .taken))) k 0 ≡ newestOf (takenIn k (fs ++ f ∷ []))
+      newest k g true e =
+          rw (taken-append k fs (f ∷ []), e, ← eqb-true (f .source) k e, getD-set-same xs (f .source) (max (getD xs (f .source) 0) (f .taken)) 0 (rw (n .places .0) h)) (omega (arith, n .newest (f .source) h, newest-append (takenIn (f .source) fs) (f .taken ∷ [])))
+      newest k g false e =
+          rw (taken-append k fs (f ∷ []), e, append-nil, getD-set-other xs (f .source) k _ 0 (λ z. eqb-false (f .source) k e (sym z))) (n .newest k g)
 
--- ---- a queue
--- the notes, when the frames from i on are still to be noted
-abbrev pub Going : List Row → List Seen → List Frame → ℕ → ℕ → List Seen → Type 0
-Going rows first xs n i now = (k : ℕ) → k < mostRows → seenFrom (periodOf (getD rows k noRow)) (getD now k noSeen) (takenIn k (drop i (take n xs))) ≡ seenFrom (periodOf (getD rows k noRow)) (getD first k noSeen) (takenIn k (take n xs))
+      counts : (k : ℕ) → k < mostRows → (b : Bool) → eqb (f .source) k ≡ b → getD (set ns (f .source) (getD ns (f .source) 0 + 1)) k 0 ≡ length (takenIn k (fs ++ f ∷ []))
+      counts k g true e =
+          rw (taken-append k fs (f ∷ []), e, ← eqb-true (f .source) k e, getD-set-same ns (f .source) (getD ns (f .source) 0 + 1) 0 (rw (n .places .1) h)) (omega (arith, n .counts (f .source) h, length-append (takenIn (f .source) fs) (f .taken ∷ [])))
+      counts k g false e =
+          rw (taken-append k fs (f ∷ []), e, append-nil, getD-set-other ns (f .source) k _ 0 (λ z. eqb-false (f .source) k e (sym z))) (n .counts k g)
 
-module _ (rows : List Row) (first : List Seen) (xs : List Frame) (n i : ℕ) (now : List Seen) (going : Going rows first xs n i now) where
-  pub one-more : (after : List Seen) → i < n → n ≤ length xs → Noted rows (getD xs i zeroFrame ∷ []) now after → Going rows first xs n (i + 1) after
-  one-more after h l e k g =
-      let f = getD xs i zeroFrame in
-      let p = periodOf (getD rows k noRow) in
-      let met : seenFrom p (getD now k noSeen) (takenIn k ((f ∷ []) ++ drop (suc i) (take n xs))) ≡ seenFrom p (getD first k noSeen) (takenIn k (take n xs)) = rw (next zeroFrame xs n i h l) at (going k g) in
-      rw (add-one, e k g) (sym (rw (taken-append k (f ∷ []) (drop (suc i) (take n xs))) (seen-append p (getD now k noSeen) (takenIn k (f ∷ [])) (takenIn k (drop (suc i) (take n xs))))) ∙ met)
+  pub not-noted : mostRows ≤ f .source → Notes (fs ++ f ∷ []) xs ns
+  not-noted h = record { places = n .places; newest = λ k g. rw (none k g) (n .newest k g); counts = λ k g. rw (none k g) (n .counts k g) }
+    where
+      none : (k : ℕ) → k < mostRows → takenIn k (fs ++ f ∷ []) ≡ takenIn k fs
+      none k g = rw (taken-append k fs (f ∷ []), ne-eqb (f .source) k (λ z. absurd (omega arith)), append-nil) refl
 
-  pub all-noted : n ≤ i → Noted rows (take n xs) first now
-  all-noted h k g = rw (drop-of-length-le (take n xs) {i = i} (rw length-take (omega arith))) at (going k g)
+  -- in turn
+  pub apart-here : (t : Table) → f .source < mostRows → inTurn (periodOf (getD (t .rows) (f .source) noRow)) (getD ns (f .source) 0) (getD xs (f .source) 0) (f .taken) ≡ true → Apart t fs → Apart t (fs ++ f ∷ [])
+  apart-here t h e a k g = go (eqb (f .source) k) refl
+    where
+      go : (b : Bool) → eqb (f .source) k ≡ b → spaced (periodOf (getD (t .rows) k noRow)) (takenIn k (fs ++ f ∷ [])) ≡ true
+      go true q =
+          rw (taken-append k fs (f ∷ []), q, ← eqb-true (f .source) k q) (in-turn (periodOf (getD (t .rows) (f .source) noRow)) (f .taken) (takenIn (f .source) fs) (rw (n .counts (f .source) h, n .newest (f .source) h) at e) (a (f .source) h))
+      go false q = rw (taken-append k fs (f ∷ []), q, append-nil) (a k g)
+
+-- one frame alone
+pub one-apart : (t : Table) (w : Wire) → Apart t (sending w)
+one-apart t Free k h = refl
+one-apart t (Sending f left) k h = go (eqb (f .source) k)
+  where
+    go : (b : Bool) → spaced (periodOf (getD (t .rows) k noRow)) (cond b (f .taken ∷ []) []) ≡ true
+    go true = refl
+    go false = refl
+
+pub one-sending : (w : Wire) → length (sending w) ≤ 1
+one-sending Free = omega arith
+one-sending (Sending f left) = omega arith

@@ -1,83 +1,49 @@
--- What the notes of a row tell of its frames: how many there are, which is the newest, and that frames in order are a period apart.
-use Prim.Native.Nat.{ℕ, suc, _+_, _≤_, _<_, max}
-use mathlib.Core.Bool.{Bool, true, false, cond, _&&_}
+-- What the notes of the rows tell: a row's frames are as they may be exactly if its count and its newest are and no two are too near each other.
+use Prim.Native.Nat.{ℕ, suc, _≤_, _<_}
+use mathlib.Core.Bool.{true, cond, _&&_, and-assoc, and-comm}
 use mathlib.Core.List.{List, [], _∷_}
-use mathlib.Core.Path.{_≡_, refl, sym}
+use mathlib.Core.Path.{_≡_, refl, sym, _∙_}
 use native.Mathlib.Omega.{arith}
 use lib.Dec.{eqb}
 use lib.ListN.{length}
-use borrow.Author.Tests.{leb-true, ne-eqb}
+use borrow.Author.Tests.{ne-eqb}
+use Rattle.table.specs.declared.Table.{Table}
+use Rattle.table.specs.Limits.{mostRows}
+use Rattle.table.specs.Rows.{contents}
 use Rattle.table.proofs.Laws as table
-use Rattle.machine.specs.State.{Instant}
-use Rattle.machine.specs.Record.{spaced, isAt, newestOf, endsAt}
-use Rattle.machine.proofs.Spaced.{Rising, rising-spaced}
-use Rattle.tally.specs.declared.Seen.{Seen}
-use Rattle.tally.specs.Rows.{inLimit, instantsTest}
-use Rattle.tally.specs.Steps.{unseen, inTurn, noted, seenFrom, countTest}
-use Rattle.tally.proofs.Notes.{count-of}
+use Rattle.planner.specs.declared.Lane.{Lane}
+use Rattle.machine.specs.declared.Frame.{Frame}
+use Rattle.machine.specs.declared.Last.{Last}
+use Rattle.machine.specs.State.{Instant, instantsOf}
+use Rattle.machine.specs.Record.{takenIn, upTo, spaced, isAt, newestOf, endsAt}
+use Rattle.machine.proofs.Places.{instant-at}
+use Rattle.frames.specs.Tests.{limitsBy}
+use Rattle.frames.proofs.Laws.{limit-at}
+use Rattle.spacing.specs.Spread.{spacedTest}
+use Rattle.spacing.proofs.Laws.{every, up-to-same, up-to-both}
+use Rattle.tally.specs.Rows.{inLimit, instantsTest, heldTest}
+use Rattle.tally.specs.Steps.{Notes, Apart, countTest, countsTest}
 
-module _ (p : ℕ) where
-  newest-of : (s : Seen) (xs : List ℕ) → seenFrom p s xs .newest ≡ max (s .newest) (newestOf xs)
-  newest-of s [] = omega arith
-  newest-of s (x ∷ xs) = omega (arith, newest-of (noted p s x) xs)
+ends-same : (xs : List ℕ) (l : Instant) → cond (eqb (length xs) 0) true (isAt (newestOf xs) l) ≡ endsAt xs l
+ends-same [] l = refl
+ends-same (x ∷ xs) l = rw (ne-eqb (suc (length xs)) 0 (λ z. absurd (omega arith))) refl
 
-  in-turn-before : (s : Seen) (x : ℕ) → inTurn p s x ≡ true → s .rising ≡ true
-  unfolding inTurn
-  in-turn-before s x e = table.and-true (s .rising) _ e .0
+by-parts : (p limit : ℕ) (l : Instant) (xs : List ℕ) → instantsTest p limit l xs ≡ (countTest (length xs) (newestOf xs) l limit p && spaced p xs)
+unfolding instantsTest countTest
+by-parts p limit l xs =
+    rw (ends-same xs l, and-comm (spaced p xs) (endsAt xs l)) (sym (and-assoc (inLimit (length xs) p limit) (endsAt xs l) (spaced p xs)))
 
-  rising-before : (s : Seen) (xs : List ℕ) → seenFrom p s xs .rising ≡ true → s .rising ≡ true
-  rising-before s [] e = e
-  rising-before s (x ∷ xs) e = in-turn-before s x (rising-before (noted p s x) xs e)
+module _ (t : Table) (long : length (t .rows) ≡ mostRows) (few : t .count ≤ mostRows) (fs : List Frame) where
+  module _ (ofa ofb : Lane) (last : List Last) (wide : length last ≡ mostRows) {newest counts : List ℕ} (n : Notes fs newest counts) where
+    row-told : (k : ℕ) → k < t .count → heldTest (contents t) (limitsBy ofa ofb (t .rows)) (instantsOf (t .count) last) fs k ≡ (countsTest t ofa ofb last newest counts k && spacedTest (contents t) fs k)
+    unfolding heldTest spacedTest
+    row-told k h =
+        let g : k < mostRows = omega arith in
+        rw (instant-at last (t .count) k h (rw wide g), table.row-at t long few k h, limit-at ofa ofb (t .rows) k (rw long g), n .newest k g, n .counts k g) (by-parts _ _ _ (takenIn k fs))
 
-  comes-after : (s : Seen) (x : ℕ) → 0 < s .count → inTurn p s x ≡ true → s .newest + p ≤ x
-  unfolding inTurn
-  comes-after s x some e = leb-true (s .newest + p) x (rw (ne-eqb (s .count) 0 (λ z. omega arith)) at (table.and-true (s .rising) _ e .1))
+    pub rows-told : upTo (t .count) (heldTest (contents t) (limitsBy ofa ofb (t .rows)) (instantsOf (t .count) last) fs) ≡ (upTo (t .count) (countsTest t ofa ofb last newest counts) && upTo (t .count) (spacedTest (contents t) fs))
+    rows-told = up-to-same (t .count) _ _ row-told ∙ up-to-both (t .count) (countsTest t ofa ofb last newest counts) (spacedTest (contents t) fs)
 
-  rises : (s : Seen) (xs : List ℕ) → 0 < s .count → seenFrom p s xs .rising ≡ true → Rising p (s .newest) xs
-  rises s [] some e = tt
-  rises s (x ∷ xs) some e =
-      let after = comes-after s x some (rising-before (noted p s x) xs e) in
-      let top : max (s .newest) x ≡ x = omega arith in
-      (after, rw top at (rises (noted p s x) xs (omega arith) e))
-
-  -- frames in order are a period apart
-  pub in-order : (xs : List ℕ) → seenFrom p unseen xs .rising ≡ true → spaced p xs ≡ true
-  in-order [] e = refl
-  in-order (x ∷ xs) e =
-      let top : max 0 x ≡ x = omega arith in
-      rising-spaced p x xs (rw top at (rises (noted p unseen x) xs (omega arith) e))
-
--- ---- the test of a row, from its notes
-ends-same : (p : ℕ) (xs : List ℕ) (l : Instant) → cond (eqb (seenFrom p unseen xs .count) 0) true (isAt (seenFrom p unseen xs .newest) l) ≡ endsAt xs l
-ends-same p [] l = refl
-ends-same p (x ∷ xs) l =
-    let many : seenFrom p unseen (x ∷ xs) .count ≡ suc (length xs) = omega (arith, count-of p unseen (x ∷ xs)) in
-    let some : eqb (seenFrom p unseen (x ∷ xs) .count) 0 ≡ false = ne-eqb (seenFrom p unseen (x ∷ xs) .count) 0 (λ z. absurd (omega arith)) in
-    let top : seenFrom p unseen (x ∷ xs) .newest ≡ newestOf (x ∷ xs) = omega (arith, newest-of p unseen (x ∷ xs)) in
-    rw (some, top) refl
-
-module _ (p limit : ℕ) (l : Instant) (xs : List ℕ) {s : Seen} (is : s ≡ seenFrom p unseen xs) where
-  counted : countTest s l limit p ≡ (inLimit (length xs) p limit && endsAt xs l)
-  unfolding countTest
-  counted =
-      let many : seenFrom p unseen xs .count ≡ length xs = omega (arith, count-of p unseen xs) in
-      rw (is, ends-same p xs l, many) refl
-
-  swap : (x y z : Bool) → (x && (y && z)) ≡ ((x && z) && y)
-  swap true true z = sym (table.and-all z)
-  swap true false true = refl
-  swap true false false = refl
-  swap false y z = refl
-
-  by-parts : instantsTest p limit l xs ≡ (countTest s l limit p && spaced p xs)
-  unfolding instantsTest
-  by-parts = rw counted (swap (inLimit (length xs) p limit) (spaced p xs) (endsAt xs l))
-
-  pub miscounted : countTest s l limit p ≡ false → false ≡ instantsTest p limit l xs
-  miscounted e = rw (by-parts, e) refl
-
-  pub ordered : countTest s l limit p ≡ true → s .rising ≡ true → true ≡ instantsTest p limit l xs
-  ordered e r = rw (by-parts, e, in-order p xs (rw is at r)) refl
-
-  pub unordered : countTest s l limit p ≡ true → {r : Bool} → r ≡ spaced p xs → r ≡ instantsTest p limit l xs
-  unordered e q = rw (by-parts, e) q
+  pub all-apart : Apart t fs → upTo (t .count) (spacedTest (contents t) fs) ≡ true
+  unfolding spacedTest
+  all-apart apart = every (t .count) (spacedTest (contents t) fs) (λ k h. rw (table.row-at t long few k h) (apart k (omega arith)))

@@ -1,19 +1,10 @@
-// The frames of each row in a record: how many there are, how far apart they were taken, and when the newest was.
+// The frames of the rows in a record: each by its row, and each row's together: how many there are, when the newest was taken, and whether they stand in the order in which calls leave them.
 mod noting;
 pub mod rows;
-mod spread;
 
-// What is known of a row's frames: the newest's instant, how many there are, and whether each was taken a period or more after those before it.
-struct Seen {
-    newest: u64,
-    count: u8,
-    rising: bool,
-}
-
-// Instants, one place for each frame that can be in a record: both class queues, and the wire.
-const MOST_FRAMES: usize = 2 * table::CLASS_PLACES + 1;
-
-struct Instants {
-    count: usize,
-    taken: [u64; MOST_FRAMES],
+// What a record's frames of rows show: one that may not be there, each taken a period or more after those of its row before it, or another order.
+pub enum Order {
+    Broken,
+    Rising,
+    Mixed,
 }

@@ -1,88 +1,122 @@
-// The frames of a record, noted row by row.
+// The frames of a record noted with their rows, those that wait held to them: how many a row has, and when the newest was taken.
 ghost use mathlib.Core.Path.{_≡_};
-ghost use Prim.Native.Nat.{_+_, _≤_, _<_};
-ghost use lib.ListN.{take, replicate};
+ghost use mathlib.Core.List.{[]};
+ghost use Prim.Native.Nat.{_+_, _≤_, _<_, max};
+ghost use lib.ListN.{getD, set};
 ghost use Rattle.table.specs.Limits.{mostRows};
 ghost use Rattle.table.specs.Wire.{periodOf};
 ghost use Rattle.machine.specs.Limits.{classPlaces};
 ghost use Rattle.machine.specs.Record.{sending};
-ghost use Rattle.tally.specs.Steps.{unseen, inTurn, noted, Few, Noted};
-use crate::Seen;
+ghost use Rattle.tally.specs.Steps.{inTurn, Notes, NotedBy};
+use crate::Order;
+use frames::tests::row_frame_ok;
+use machine::Frame;
 use machine::Queue;
 use machine::Wire;
+use planner::Lane;
+use planner::acceptance::residence;
+use table::Class;
 use table::ROWS;
 use table::Row;
 use table::Table;
 use table::quotient::larger;
 use table::wire::period;
 
-// The frame comes a period or more after the newest before it, or is the first.
-fn in_turn(s: Seen, taken: u64, row: Row) -> bool
-    ensures { λ r. ⌜ r ≡ inTurn (periodOf row) s taken ⌝ }
+// The frame comes a period or more after the newest of its row before it, or is the first.
+fn in_turn(count: u64, newest: u64, taken: u64, row: Row) -> bool
+    ensures { λ r. ⌜ r ≡ inTurn (periodOf row) count newest taken ⌝ }
 {
-    if !s.rising {
-        return false;
-    }
-    if s.count == 0 {
+    if count == 0 {
         return true;
     }
-    if taken < s.newest {
+    if taken < newest {
         return false;
     }
-    period(row) <= taken - s.newest
+    period(row) <= taken - newest
 }
 
-// One frame more.
-fn with_taken(s: Seen, taken: u64, row: Row) -> Seen
-    requires { ⌜ s .count < 255 ⌝ }
-    ensures { λ r. ⌜ r ≡ noted (periodOf row) s taken ⌝ }
+// One frame more of row k; whether it comes in turn.
+fn note(newest: &mut [u64; ROWS], counts: &mut [u64; ROWS], k: usize, taken: u64, row: Row) -> bool
+    requires { ⌜ k < mostRows ⌝ }
+    requires { ⌜ getD (now counts) k 0 ≤ 255 ⌝ }
+    ensures turn { λ r. ⌜ r ≡ inTurn (periodOf row) (getD (now (counts .entry)) k 0) (getD (now (newest .entry)) k 0) taken ⌝ }
+    ensures newest { λ r. ⌜ now (newest .exit) ≡ set (now (newest .entry)) k (max (getD (now (newest .entry)) k 0) taken) ⌝ }
+    ensures counts { λ r. ⌜ now (counts .exit) ≡ set (now (counts .entry)) k (getD (now (counts .entry)) k 0 + 1) ⌝ }
 {
-    let rising = in_turn(s, taken, row);
-    Seen {
-        newest: larger(s.newest, taken),
-        count: s.count + 1,
-        rising,
-    }
+    let x = newest[k];
+    let n = counts[k];
+    newest[k] = larger(x, taken);
+    counts[k] = n + 1;
+    in_turn(n, x, taken, row)
 }
 
-// The frame on the wire, if there is one. A source that is no row's number is not noted.
-pub fn with_wire(w: Wire, t: Table) -> [Seen; ROWS]
-    ensures { λ r. ⌜ Noted (t .rows) (sending w) (replicate mostRows unseen) r ⌝ }
+// The frame on the wire, if there is one. A source of 32 or more is not noted.
+fn note_wire(newest: &mut [u64; ROWS], counts: &mut [u64; ROWS], w: Wire)
+    requires { ⌜ Notes [] (now newest) (now counts) ⌝ }
+    ensures { λ _. ⌜ Notes (sending w) (now (newest .exit)) (now (counts .exit)) ⌝ }
 {
-    let none = Seen {
-        newest: 0,
-        count: 0,
-        rising: true,
-    };
-    let mut next = [none; ROWS];
     if let Wire::Sending(f, _) = w {
         let k = f.source as usize;
         if k < ROWS {
-            let row = t.rows[k];
-            next[k] = with_taken(none, f.taken, row);
+            newest[k] = f.taken;
+            counts[k] = 1;
         }
     }
-    next
 }
 
-// The frames that wait in a class's queue.
-pub fn with_queue(seen: [Seen; ROWS], q: Queue, t: Table) -> [Seen; ROWS]
-    requires { ⌜ Few (classPlaces + 1) seen ⌝ }
-    requires { ⌜ q .count ≤ classPlaces ⌝ }
-    ensures { λ r. ⌜ Noted (t .rows) (take (q .count) (q .frames)) seen r ⌝ }
+// The frame on the wire, and then those that wait, A's and B's in one loop. (In a function for each queue its places are copied twice.)
+pub fn note_all(
+    newest: &mut [u64; ROWS],
+    counts: &mut [u64; ROWS],
+    w: Wire,
+    a: Queue,
+    b: Queue,
+    t: Table,
+    ofa: Lane,
+    ofb: Lane,
+    clock: u64,
+) -> Order
+    requires { ⌜ Notes [] (now newest) (now counts) ⌝ }
+    requires { ⌜ (a .count ≤ classPlaces) × (b .count ≤ classPlaces) ⌝ }
+    ensures { λ r. ⌜ NotedBy w a b t ofa ofb clock (now (newest .exit)) (now (counts .exit)) r ⌝ }
 {
-    let n = q.count;
-    let mut next = seen;
+    note_wire(newest, counts, w);
+    let first = a.count;
+    let n = first + b.count;
+    let mut rising = true;
     let mut i: usize = 0;
     while i < n {
-        let f = q.frames[i];
+        let mut class = Class::A;
+        let mut f = Frame {
+            source: 0,
+            size: 0,
+            taken: 0,
+        };
+        if i < first {
+            f = a.frames[i];
+        } else {
+            let j = i - first;
+            f = b.frames[j];
+            class = Class::B;
+        }
         let k = f.source as usize;
-        if k < ROWS {
-            let row = t.rows[k];
-            let s = next[k];
-            next[k] = with_taken(s, f.taken, row);
+        if t.count <= k {
+            return Order::Broken;
+        }
+        if ROWS <= k {
+            return Order::Broken;
+        }
+        let row = t.rows[k];
+        if !row_frame_ok(class, f, row, residence(row, ofa, ofb), clock) {
+            return Order::Broken;
+        }
+        if !note(newest, counts, k, f.taken, row) {
+            rising = false;
         }
         i += 1;
     }
-    next
+    if rising {
+        return Order::Rising;
+    }
+    Order::Mixed
 }

@@ -1,23 +1,21 @@
 // The frames of every row in a record.
 ghost use mathlib.Core.Path.{_≡_};
-ghost use mathlib.Core.Bool.{_&&_};
 ghost use Prim.Native.Nat.{_≤_};
-ghost use lib.ListN.{replicate};
 ghost use Rattle.table.specs.Limits.{mostRows};
 ghost use Rattle.table.specs.Wire.{periodOf};
-ghost use Rattle.table.specs.Rows.{contents};
-ghost use Rattle.machine.specs.Limits.{classPlaces};
-ghost use Rattle.machine.specs.State.{instantOf, instantsOf};
-ghost use Rattle.machine.specs.Record.{takenIn, upTo};
-ghost use Rattle.tally.specs.Rows.{inRecord, instantsTest, heldTest, inPlaces, noRowFrames};
-ghost use Rattle.tally.specs.Steps.{unseen, seenFrom, Noted, countTest};
-use crate::Seen;
-use crate::noting::with_queue;
-use crate::noting::with_wire;
-use crate::spread::spread_ok;
+ghost use Rattle.machine.specs.State.{instantOf};
+ghost use Rattle.machine.specs.Record.{upTo};
+ghost use Rattle.frames.specs.Tests.{limitsBy};
+ghost use Rattle.spacing.specs.Spread.{spreadTest};
+ghost use Rattle.tally.specs.Rows.{noRowFrames, rowFramesTest, TestBy};
+ghost use Rattle.tally.specs.Steps.{Few, countTest, countsTest};
+use crate::Order;
+use crate::noting::note_all;
 use machine::Last;
 use machine::Queue;
 use machine::Wire;
+use planner::Lane;
+use planner::acceptance::residence;
 use table::CLASS_PLACES;
 use table::ROWS;
 use table::Row;
@@ -25,36 +23,21 @@ use table::Table;
 use table::wire::period;
 
 // A row has no more frames than its limit of age has periods, and the newest was taken at its last instant.
-fn count_ok(s: Seen, l: Last, limit: u64, row: Row) -> bool
-    ensures { λ r. ⌜ r ≡ countTest s (instantOf l) limit (periodOf row) ⌝ }
+fn count_ok(count: u64, newest: u64, l: Last, limit: u64, row: Row) -> bool
+    requires { ⌜ count ≤ 255 ⌝ }
+    ensures { λ r. ⌜ r ≡ countTest count newest (instantOf l) limit (periodOf row) ⌝ }
 {
-    if s.count == 0 {
+    if count == 0 {
         return true;
     }
-    let more = s.count as u64 - 1;
+    let more = count - 1;
     if limit <= more * period(row) {
         return false;
     }
     if l.known {
-        return l.taken == s.newest;
+        return l.taken == newest;
     }
     false
-}
-
-// One row's frames. Where each was taken a period after those before it, count and newest are all there is to ask; if not, each is held against each.
-fn row_ok(k: usize, s: Seen, row: Row, l: Last, limit: u64, w: Wire, a: Queue, b: Queue) -> bool
-    requires { ⌜ (a .count ≤ classPlaces) × (b .count ≤ classPlaces) ⌝ }
-    requires { ⌜ s ≡ seenFrom (periodOf row) unseen (takenIn k (inRecord w a b)) ⌝ }
-    ensures { λ r. ⌜ r ≡ instantsTest (periodOf row) limit (instantOf l) (takenIn k (inRecord w a b)) ⌝ }
-{
-    let rising = s.rising;
-    if !count_ok(s, l, limit, row) {
-        return false;
-    }
-    if rising {
-        return true;
-    }
-    spread_ok(k, period(row), w, a, b)
 }
 
 // No row's frame waits in a class queue or is on the wire: then there is nothing to ask.
@@ -73,31 +56,25 @@ pub fn no_row_frame(w: Wire, a: usize, b: usize) -> bool
     }
 }
 
-// The frames of a record, each noted with its row.
-fn all_seen(w: Wire, a: Queue, b: Queue, t: Table) -> [Seen; ROWS]
-    requires { ⌜ (a .count ≤ classPlaces) × (b .count ≤ classPlaces) ⌝ }
-    ensures { λ r. ⌜ Noted (t .rows) (inRecord w a b) (replicate mostRows unseen) r ⌝ }
-{
-    let on_wire = with_wire(w, t);
-    let of_a = with_queue(on_wire, a, t);
-    with_queue(of_a, b, t)
-}
-
-// Every row's frames in a record whose rows and frames have their places.
-fn each_ok(w: Wire, a: Queue, b: Queue, t: Table, limits: [u64; ROWS], last: [Last; ROWS]) -> bool
+// Count and newest of each row.
+fn counts_ok(
+    newest: &[u64; ROWS],
+    counts: &[u64; ROWS],
+    t: Table,
+    ofa: Lane,
+    ofb: Lane,
+    last: [Last; ROWS],
+) -> bool
     requires { ⌜ t .count ≤ mostRows ⌝ }
-    requires { ⌜ (a .count ≤ classPlaces) × (b .count ≤ classPlaces) ⌝ }
-    ensures { λ r. ⌜ r ≡ upTo (t .count) (heldTest (contents t) limits (instantsOf (t .count) last) (inRecord w a b)) ⌝ }
+    requires { ⌜ Few 255 (now counts) ⌝ }
+    ensures { λ r. ⌜ r ≡ upTo (t .count) (countsTest t ofa ofb last (now (newest .entry)) (now (counts .entry))) ⌝ }
 {
-    let seen = all_seen(w, a, b, t);
     let n = t.count;
     let mut i: usize = 0;
     while i < n {
-        let s = seen[i];
         let row = t.rows[i];
         let l = last[i];
-        let limit = limits[i];
-        if !row_ok(i, s, row, l, limit, w, a, b) {
+        if !count_ok(counts[i], newest[i], l, residence(row, ofa, ofb), row) {
             return false;
         }
         i += 1;
@@ -105,25 +82,37 @@ fn each_ok(w: Wire, a: Queue, b: Queue, t: Table, limits: [u64; ROWS], last: [La
     true
 }
 
-// Every row's frames in a record; false where rows or frames have no place.
-pub fn held_ok(
+// The frames of the rows: the queues', each held to its row, and each row's count and newest. Where each came a period after those of its row before it, no two are too near;
+// if not, that is still to be asked.
+pub fn order(
     w: Wire,
     a: Queue,
     b: Queue,
     t: Table,
-    limits: [u64; ROWS],
+    ofa: Lane,
+    ofb: Lane,
     last: [Last; ROWS],
-) -> bool
-    ensures { λ r. ⌜ r ≡ inPlaces t a b && upTo (t .count) (heldTest (contents t) limits (instantsOf (t .count) last) (inRecord w a b)) ⌝ }
+    clock: u64,
+) -> Order
+    ensures { λ r. ⌜ TestBy (rowFramesTest w a b t (limitsBy ofa ofb (t .rows)) last clock) (spreadTest w a b t) r ⌝ }
 {
     if ROWS < t.count {
-        return false;
+        return Order::Broken;
     }
     if CLASS_PLACES < a.count {
-        return false;
+        return Order::Broken;
     }
     if CLASS_PLACES < b.count {
-        return false;
+        return Order::Broken;
     }
-    each_ok(w, a, b, t, limits, last)
+    let mut newest = [0u64; ROWS];
+    let mut counts = [0u64; ROWS];
+    let found = note_all(&mut newest, &mut counts, w, a, b, t, ofa, ofb, clock);
+    if let Order::Broken = found {
+        return Order::Broken;
+    }
+    if !counts_ok(&newest, &counts, t, ofa, ofb, last) {
+        return Order::Broken;
+    }
+    found
 }

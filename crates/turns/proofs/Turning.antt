@@ -1,4 +1,4 @@
--- A file that is opened, and a call with its answer.
+-- A file that is opened.
 use Prim.Native.Nat.{ℕ}
 use mathlib.Core.List.{List, [], _∷_}
 use mathlib.Core.Path.{_≡_, sym, _∙_, ap}
@@ -8,13 +8,10 @@ use Rattle.tablefile.specs.declared.Loaded.{Loaded}
 use Rattle.tablefile.specs.Reading as files
 use Rattle.tablefile.specs.Reading.{Reads}
 use Rattle.machine.specs.declared.AfterOpening.{AfterOpening}
-use Rattle.machine.specs.declared.Port.{Port}
-use Rattle.machine.specs.Calls.{Call, Answer, Gives, Opened}
+use Rattle.machine.specs.Calls.{Opened}
 use Rattle.codes.specs.Codes.{codeOf}
 use Rattle.codes.proofs.Laws.{both-zero, checked}
-use Rattle.callbytes.specs.Calls.{answerBytes, fronted, isDenied}
-use Rattle.turns.specs.declared.Stepped.{Stepped}
-use Rattle.turns.specs.Turns.{FileOpened, Steps}
+use Rattle.turns.specs.Turns.{FileOpened}
 
 pub opened-file : (file : List ℕ) (l : Loaded) → Reads file l → (g : AfterOpening) → Opened (l .table) g → {r : ℕ} → r ≡ codeOf (first (files.outcomeOf (l .answer) ∷ tables.outcomeOf (g .verdict) ∷ [])) → FileOpened file (record { code = r; port = g .port })
 opened-file file l read g made {r} e =
@@ -24,13 +21,4 @@ opened-file file l read g made {r} e =
       told = λ z. sym same ∙ both-zero (l .answer) (g .verdict) (sym e ∙ z);
       fresh = rw (← read .table) (made .port);
       table = made .table ∙ read .table;
-    }
-
--- a call's answer, and its bytes at the front of a buffer
-pub stepped : {p : Port} {s : Stepped} {c : Call} {a : Answer} {before after : List ℕ} → Gives p c a (s .port) → s .refused ≡ isDenied a → after ≡ fronted (answerBytes a) before → Steps p c s before after
-stepped {p} {s} {c} {a} {before} g r w =
-    record {
-      gives = rw (g .answer) at g;
-      refused = r ∙ ap isDenied (g .answer);
-      bytes = w ∙ ap (λ (x : Answer). fronted (answerBytes x) before) (g .answer);
     }

@@ -1,3 +1,3 @@
--- The port of a table file, and one call on a port with its answer in bytes.
+-- The port of a table file, and how many byte-times a call asks for.
 pub mod Turns
 pub mod Steps

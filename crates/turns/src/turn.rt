@@ -1,46 +1,15 @@
-// One call on a port.
+// What a call on a port comes to.
 ghost use mathlib.Core.Path.{_≡_};
-ghost use Rattle.machine.specs.Calls.{offer, offerBest, advance};
+ghost use Rattle.machine.specs.State.{view};
+ghost use Rattle.machine.specs.Record.{sound};
+ghost use Rattle.machine.specs.Effects.{Comes};
 ghost use Rattle.callbytes.specs.Calls.{callOf};
-ghost use Rattle.turns.specs.Turns.{Steps};
 ghost use Rattle.turns.specs.Steps.{spanOf};
-use crate::Stepped;
 use callbytes::Asked;
-use callbytes::answers::write_advance;
-use callbytes::answers::write_offer;
+use machine::Effect;
 use machine::Port;
 
-fn offered(p: Port, row: u64, payload: u64, out: &mut [u8]) -> Stepped
-    ensures { λ s. ⌜ Steps p (offer row payload) s (now (out .entry)) (now (out .exit)) ⌝ }
-{
-    let r = offers::offers::offer(p, row, payload);
-    let a = r.answer;
-    let refused = write_offer(out, a);
-    let port = r.port;
-    Stepped { refused, port }
-}
-
-fn best_offered(p: Port, payload: u64, out: &mut [u8]) -> Stepped
-    ensures { λ s. ⌜ Steps p (offerBest payload) s (now (out .entry)) (now (out .exit)) ⌝ }
-{
-    let r = offers::offers::offer_best(p, payload);
-    let a = r.answer;
-    let refused = write_offer(out, a);
-    let port = r.port;
-    Stepped { refused, port }
-}
-
-fn advanced(p: Port, n: u64, out: &mut [u8]) -> Stepped
-    ensures { λ s. ⌜ Steps p (advance n) s (now (out .entry)) (now (out .exit)) ⌝ }
-{
-    let r = advances::advances::advance(p, n);
-    let a = r.answer;
-    let refused = write_advance(out, a);
-    let port = r.port;
-    Stepped { refused, port }
-}
-
-// How many byte-times an advance asks for. (An advance called in two arms of `step` stands there twice when compiled, and takes 14 KB of stack more.)
+// How many byte-times an advance asks for. (An advance judged in two arms of `effect` stands there twice when compiled, and takes more stack.)
 fn span(asked: Asked) -> u64
     ensures { λ r. ⌜ r ≡ spanOf asked ⌝ }
 {
@@ -52,14 +21,14 @@ fn span(asked: Asked) -> u64
     }
 }
 
-// One call; its answer goes to the front of the buffer. A buffer that is too short for it keeps every byte.
-pub fn step(p: Port, asked: Asked, out: &mut [u8]) -> Stepped
-    ensures { λ s. ⌜ Steps p (callOf asked) s (now (out .entry)) (now (out .exit)) ⌝ }
+// What a call comes to; `whole` is what the record check says.
+pub fn effect(p: Port, whole: bool, asked: Asked) -> Effect
+    ensures { λ e. ⌜ (whole ≡ sound (view p) → Comes p (callOf asked) e) ⌝ }
 {
     let n = span(asked);
     match asked {
-        Asked::Offer(row, payload) => offered(p, row, payload, out),
-        Asked::OfferBest(payload) => best_offered(p, payload, out),
-        _ => advanced(p, n, out),
+        Asked::Offer(row, payload) => offers::offers::judge(p, whole, row, payload),
+        Asked::OfferBest(payload) => offers::offers::judge_best(p, whole, payload),
+        _ => advances::advances::judge(p, whole, n),
     }
 }

@@ -4,4 +4,5 @@ mod Storing
 mod Fitting
 mod Held
 mod Spread
+mod Rest
 pub mod Laws

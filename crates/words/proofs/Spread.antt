@@ -40,7 +40,7 @@ module _ {X : Type 0} (f : X → List ℕ) (size : ℕ) where
   spread-none k s = refl
 
   -- one more thing behind the others
-  behind : (k : ℕ) (xs : List X) (x : X) (s : List ℕ) → spread f size k (xs ++ x ∷ []) s ≡ stored (spread f size k xs s) (k + size * length xs) (f x)
+  pub behind : (k : ℕ) (xs : List X) (x : X) (s : List ℕ) → spread f size k (xs ++ x ∷ []) s ≡ stored (spread f size k xs s) (k + size * length xs) (f x)
   unfolding spread
   behind k [] x s = let z : k + size * 0 ≡ k = omega arith in rw z refl
   behind k (y ∷ xs) x s =

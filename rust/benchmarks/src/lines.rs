@@ -1,4 +1,4 @@
-//! The lines of the tables: what is measured, and what it should stay below.
+//! What is measured, and what it should stay below.
 
 use std::hint::black_box;
 
@@ -9,7 +9,11 @@ use ithumeco::BOUNDS_SIZE;
 use simulator::{file_of, Call, Port};
 
 use crate::clock::{compare, Compared};
-use crate::lists::{all_offered, called, called_on, replayed, simulate, up_to_the_most};
+use crate::lists::{
+    all_offered, beside_each_other, by_the_byte_time, called, called_in_turn, called_on, replayed,
+    simulate, up_to_the_most,
+};
+use crate::report::{Line, Target};
 use crate::tables::{of_32_rows, of_long_waits, OF_3_ROWS};
 
 /// Calls that are made again and again. A frame is offered in the gap of the one
@@ -18,58 +22,27 @@ use crate::tables::{of_32_rows, of_long_waits, OF_3_ROWS};
 /// fewer.)
 const LONG: &[Call] = &[Call::Advance(65_535)];
 const FULL_FRAME: &[Call] = &[Call::OfferBest(1500), Call::Advance(1542)];
-const SMALL_FRAME: &[Call] = &[Call::OfferBest(42), Call::Advance(84)];
+const SMALL_FRAME: [Call; 2] = [Call::OfferBest(42), Call::Advance(84)];
 const NOTHING: &[Call] = &[Call::Advance(0)];
 
-/// Something measured beside the simulator.
-pub struct Line {
-    pub name: &'static str,
-    pub compared: Compared<2>,
-    /// Targets: a ratio to the simulator, and nanoseconds.
-    most_ratio: f64,
-    under_ns: Option<f64>,
-    /// Nanoseconds that a later version is to stay under. It is no target yet.
-    goal_ns: Option<f64>,
-}
+/// What one call on a record's bytes is to stay within.
+const OF_A_CALL: &[Target] = &[Target::AtMostNs(1500.0)];
 
-impl Line {
-    fn new(name: &'static str, compared: Compared<2>, most_ratio: f64) -> Line {
-        Line {
-            name,
-            compared,
-            most_ratio,
-            under_ns: None,
-            goal_ns: None,
-        }
-    }
-
-    /// Whether the targets are met.
-    pub fn met(&self) -> bool {
-        let under = |most| self.compared.ns[0] < most;
-        self.compared.ratios[1] <= self.most_ratio && self.under_ns.is_none_or(under)
-    }
-
-    /// The targets and the goal in words.
-    pub fn told(&self) -> String {
-        let mut told = format!("at most {}", self.most_ratio);
-        if let Some(most) = self.under_ns {
-            told += &format!(", under {most} ns");
-        }
-        told += if self.met() { ": met" } else { ": missed" };
-        if let Some(most) = self.goal_ns {
-            let reached = self.compared.ns[0] < most;
-            let reached = if reached { "met" } else { "not yet" };
-            told += &format!("; goal under {most} ns: {reached}");
-        }
-        told
+/// A line of what is not done in place.
+fn beside_the_simulator(name: &'static str, compared: Compared<1>, targets: &[Target]) -> Line<2> {
+    Line {
+        name,
+        ns: compared.ns,
+        others: [Some(compared.others[0]), None],
+        targets: targets.to_vec(),
     }
 }
 
-/// Lists by the byte-time.
-pub fn byte_times() -> [Line; 3] {
-    let line = |name, file: &[u8], calls: &[Call]| Line {
-        under_ns: Some(2.0),
-        ..Line::new(name, replayed(file, calls, simulate(file, calls)), 1.5)
+/// Lists by the byte-time. In place they do not pass one by one.
+pub fn byte_times() -> [Line<2>; 3] {
+    let line = |name, file: &[u8], calls: &[Call]| {
+        let targets = [Target::AtMost(1.5), Target::UnderNs(2.0)];
+        beside_the_simulator(name, by_the_byte_time(file, calls), &targets)
     };
     [
         line(
@@ -91,10 +64,10 @@ pub fn byte_times() -> [Line; 3] {
 }
 
 /// Advances in which much time passes.
-pub fn long_advances() -> [Line; 2] {
+pub fn long_advances() -> [Line<2>; 2] {
     let line = |name, calls: &[Call], times| {
-        let list = calls.repeat(times);
-        Line::new(name, replayed(&OF_3_ROWS, &list, times as u64), 1.5)
+        let compared = replayed(&OF_3_ROWS, &calls.repeat(times), times as u64);
+        Line::new(name, compared, &[Target::AtMost(1.5)])
     };
     [
         line("advance by 65,535, free wire, nothing waits", LONG, 40),
@@ -107,21 +80,25 @@ pub fn long_advances() -> [Line; 2] {
 }
 
 /// Calls in which little time passes or none.
-pub fn short_calls() -> [Line; 7] {
+pub fn short_calls() -> [Line<2>; 7] {
     let (three, many) = (&OF_3_ROWS[..], &of_32_rows()[..]);
-    let line = |name, file, calls: &[Call], times| {
-        let list = calls.repeat(times);
-        Line::new(name, replayed(file, &list, times as u64), 2.0)
+    let listed = |name, file, list: &[Call], times| {
+        let compared = replayed(file, list, times as u64);
+        Line::new(name, compared, &[Target::AtMost(2.0)])
     };
+    let line = |name, file, calls: &[Call], times| listed(name, file, &calls.repeat(times), times);
     let early = [Call::Offer(0, 50)];
-    let all_waiting = all_offered(50, NOTHING[0], 100_000);
     [
-        line("advance by 0, 3 rows", three, NOTHING, 100_000),
+        Line {
+            targets: vec![Target::AtMost(1.2)],
+            ..line("advance by 0, 3 rows", three, NOTHING, 100_000)
+        },
         line("advance by 0, 32 rows", many, NOTHING, 100_000),
-        Line::new(
+        listed(
             "advance by 0, 32 rows, every row's frame waiting",
-            replayed(many, &all_waiting, 100_000),
-            2.0,
+            many,
+            &all_offered(50, NOTHING[0], 100_000),
+            100_000,
         ),
         line(
             "offer to a row, refused as early, 3 rows",
@@ -136,31 +113,31 @@ pub fn short_calls() -> [Line; 7] {
             100_000,
         ),
         Line {
-            goal_ns: Some(672.0),
+            targets: vec![Target::AtMost(2.0), Target::UnderNs(672.0)],
             ..line(
                 "offer and advance of an 84-byte best-effort frame, 3 rows",
                 three,
-                SMALL_FRAME,
+                &SMALL_FRAME,
                 50_000,
             )
         },
         line(
             "offer and advance of an 84-byte best-effort frame, 32 rows",
             many,
-            SMALL_FRAME,
+            &SMALL_FRAME,
             50_000,
         ),
     ]
 }
 
-/// What is asked of a table file.
-pub fn files() -> [Line; 2] {
+/// What is asked of a table file. No port is in it.
+pub fn files() -> [Line<2>; 2] {
     const TIMES: u64 = 1_000;
     let many = of_32_rows();
     let line = |name, ours: &dyn Fn(), theirs: &dyn Fn()| {
         let again = |program: &dyn Fn()| (0..TIMES).for_each(|_| program());
-        let compared = compare(TIMES, [&mut || again(ours), &mut || again(theirs)]);
-        Line::new(name, compared, 2.0)
+        let compared = compare(TIMES, &mut || again(ours), [&mut || again(theirs)]);
+        beside_the_simulator(name, compared, &[Target::AtMost(2.0)])
     };
     [
         line(
@@ -184,28 +161,46 @@ pub fn files() -> [Line; 2] {
     ]
 }
 
-/// Calls on a record's bytes: beside the simulator's on its own port, and
-/// beside the same calls in a list.
-pub fn calls_on_bytes() -> [(&'static str, Compared<3>); 3] {
+/// Calls on a record's bytes: beside the simulator's on its own port, those in
+/// place, and the same calls in a list. Each of the two that an 84-byte frame
+/// takes is measured alone as well.
+pub fn calls_on_bytes() -> [Line<3>; 5] {
     const TIMES: usize = 20_000;
-    let line = |name, file: &[u8], calls: &[Call]| {
+    let line = |name, file: &[u8], calls: &[Call], targets| {
         let compared = called(file, &calls.repeat(TIMES), TIMES as u64);
-        (name, compared)
+        Line::new(name, compared, targets)
     };
+    let alone = |name, ns| Line {
+        name,
+        ns,
+        others: [None; 3],
+        targets: OF_A_CALL.to_vec(),
+    };
+    let [offer, advance] = called_in_turn(&OF_3_ROWS, SMALL_FRAME);
     [
-        line("advance by 0, 3 rows", &OF_3_ROWS, NOTHING),
-        line("advance by 0, 32 rows", &of_32_rows(), NOTHING),
+        line("advance by 0, 3 rows", &OF_3_ROWS, NOTHING, OF_A_CALL),
+        line("advance by 0, 32 rows", &of_32_rows(), NOTHING, &[]),
         line(
             "offer and advance of an 84-byte best-effort frame, 3 rows",
             &OF_3_ROWS,
-            SMALL_FRAME,
+            &SMALL_FRAME,
+            &[],
         ),
+        alone("its offer alone", offer),
+        alone("its advance alone", advance),
     ]
+}
+
+/// Advances by 0 on a fresh port of few rows, beside those on one of 32.
+pub fn few_rows() -> [Line<1>; 2] {
+    let [listed, on_bytes] = beside_each_other(&OF_3_ROWS, &of_32_rows(), 50_000);
+    [("in a list", listed), ("on a record's bytes", on_bytes)]
+        .map(|(name, compared)| Line::new(name, compared, &[Target::Below(1.0)]))
 }
 
 /// Calls in a list that has led to as many frames of a row as lists were found
 /// to lead to.
-pub fn calls_behind_many_frames() -> [(&'static str, Compared<2>); 2] {
+pub fn calls_behind_many_frames() -> [Line<2>; 2] {
     const TIMES: usize = 20_000;
     let table = crowds::with_two_neighbours();
     let (row, way, again) = (3, Way::Blocked, Some(0));
@@ -213,7 +208,7 @@ pub fn calls_behind_many_frames() -> [(&'static str, Compared<2>); 2] {
     assert_eq!(most, 58, "the frames that the lines' names speak of");
     let line = |name, call| {
         let list = [&list[..], &[call].repeat(TIMES)].concat();
-        (name, replayed(&file_of(&table), &list, TIMES as u64))
+        Line::new(name, replayed(&file_of(&table), &list, TIMES as u64), &[])
     };
     [
         line(
@@ -228,10 +223,10 @@ pub fn calls_behind_many_frames() -> [(&'static str, Compared<2>); 2] {
 }
 
 /// Calls on a record's bytes with as many frames in the port as there may be,
-/// beside the simulator's on its own port, and the same on a fresh port.
-pub fn calls_on_full_ports() -> [(&'static str, Compared<2>); 9] {
-    const TIMES: u64 = 20_000;
-    let line = |name, port: &Port, call| (name, called_on(port, call, TIMES));
+/// and the same on a fresh port.
+pub fn calls_on_full_ports() -> [Line<2>; 9] {
+    const TIMES: usize = 20_000;
+    let line = |name, port: &Port, call| Line::new(name, called_on(port, call, TIMES), &[]);
     let nothing = Call::Advance(0);
     let (pairs, mixed) = (crowds::two_of_each(), crowds::with_two_neighbours());
     let both = crowds::full_classes();

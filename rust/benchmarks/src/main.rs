@@ -1,46 +1,42 @@
-//! The static library's speed beside the simulator's: the same input, the same
-//! run, both built for release. docs/BENCHMARKS.md says how to read the tables.
-//! Ends with status 1 if a target is missed.
+//! The static library's speed beside the simulator's and beside that of a port
+//! changed in place: the same input, the same run, all built for release.
+//! docs/BENCHMARKS.md says how to read the tables. Ends with status 1 if a target
+//! is missed.
 
 mod clock;
 mod lines;
 mod lists;
+mod report;
 mod tables;
 
 use std::process::ExitCode;
 
+use report::print;
+
 fn main() -> ExitCode {
+    let (simulator, in_place) = ("simulator's ns", "in place, ns");
     let lists = lines::byte_times()
         .into_iter()
-        .chain(lines::long_advances());
-    let lists = lists.chain(lines::short_calls()).chain(lines::files());
-    println!("| what | ns | simulator's ns | ratio | target |");
-    println!("|---|---:|---:|---:|---|");
-    let mut missed = 0;
-    for line in lists {
-        let ([ours, theirs], [_, ratio]) = (line.compared.ns, line.compared.ratios);
-        let (name, told) = (line.name, line.told());
-        println!("| {name} | {ours:.2} | {theirs:.2} | {ratio:.3} | {told} |");
-        missed += u32::from(!line.met());
-    }
-    println!();
-    println!(
-        "| one call on a record's bytes | ns | simulator's ns | ratio | ns in a list | ratio |"
+        .chain(lines::long_advances())
+        .chain(lines::short_calls())
+        .chain(lines::files());
+    let mut missed = print("what", [simulator, in_place], lists);
+    missed += print(
+        "one call on a record's bytes",
+        [simulator, in_place, "ns in a list"],
+        lines::calls_on_bytes(),
     );
-    println!("|---|---:|---:|---:|---:|---:|");
-    for (name, compared) in lines::calls_on_bytes() {
-        let [ours, theirs, listed] = compared.ns;
-        let [_, ratio, of_list] = compared.ratios;
-        println!("| {name} | {ours:.2} | {theirs:.2} | {ratio:.3} | {listed:.2} | {of_list:.3} |");
-    }
-    println!();
-    println!("| one call beside many frames of a class | ns | simulator's ns | ratio |");
-    println!("|---|---:|---:|---:|");
+    missed += print(
+        "advance by 0 on a fresh port of 3 rows",
+        ["of 32 rows, ns"],
+        lines::few_rows(),
+    );
     let crowded = lines::calls_behind_many_frames().into_iter();
-    for (name, compared) in crowded.chain(lines::calls_on_full_ports()) {
-        let ([ours, theirs], [_, ratio]) = (compared.ns, compared.ratios);
-        println!("| {name} | {ours:.2} | {theirs:.2} | {ratio:.3} |");
-    }
-    println!("\n{missed} missed");
+    missed += print(
+        "one call beside many frames of a class",
+        [simulator, in_place],
+        crowded.chain(lines::calls_on_full_ports()),
+    );
+    println!("{missed} missed");
     ExitCode::from(u8::from(missed > 0))
 }

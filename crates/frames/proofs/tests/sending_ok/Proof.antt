@@ -5,8 +5,6 @@ use mathlib.Core.List.{List}
 use mathlib.Core.Path.{_≡_, refl, sym, subst}
 use lib.ListN.{length, getD}
 use borrow.Author.Tests.{le-leb, lt-leb}
-use borrow.Kind.Array.{good-length, eInt}
-use mir.Syntax.{w64}
 use Rattle.table.specs.declared.Row.{Row}
 use Rattle.table.specs.declared.Table.{Table}
 use Rattle.table.specs.Wire.{wireSize}
@@ -15,7 +13,7 @@ use Rattle.table.specs.Rows.{noRow, contents, rowAt}
 use Rattle.table.proofs.Laws as table
 use Rattle.planner.proofs.Laws as law
 use Rattle.machine.specs.declared.Frame.{Frame}
-use Rattle.frames.proofs.Naming.{no-place}
+use Rattle.frames.proofs.Naming.{no-place, row-here}
 use Rattle.frames.specs.Tests.{frameTest, bestTest, sendingTest}
 use borrow.Author.Needs.{needs}
 use Rattle.frames.proofs.tests.sending_ok.Statement.{statement}
@@ -55,7 +53,7 @@ cast-k c = search needs
 returns-3 : tie.Need-returns-3
 returns-3 c =
     let s = c .before .before .before .before .before .before in
-    of-class (s .args .t3) _ (s .args .clock) (s .args .f) (s .args .left) (c .before .before .before .before .before .if1 .left) (c .before .before .before .if2 .left) (c .before .if3 .taken) (no-place _ (s .args .t3) (s .args .limits) _ _ (good-length (eInt w64) mostRows (s .args .limits) _ (s .good .1 .1 .1 .0)) (c .if4 .taken))
+    of-class (s .args .t3) _ (s .args .clock) (s .args .f) (s .args .left) (c .before .before .before .before .before .if1 .left) (c .before .before .before .if2 .left) (c .before .if3 .taken) (no-place _ (s .args .t3) (s .args .a) (s .args .b) _ _ (table.places (s .args .t3) _ (s .good .1 .1 .0)) (c .if4 .taken))
 
 mul-row : tie.Need-mul-row
 mul-row c = search needs
@@ -63,13 +61,18 @@ mul-row c = search needs
 element-copy-out-row : tie.Need-element-copy-out-row
 element-copy-out-row c = search needs
 
-frame-ok-requires : tie.Need-frame-ok-requires
-frame-ok-requires c κs = search needs
+residence-requires : tie.Need-residence-requires
+residence-requires c κs = search needs
+
+row-frame-ok-requires : tie.Need-row-frame-ok-requires
+row-frame-ok-requires c κs = search needs
 
 returns-4 : tie.Need-returns-4
 returns-4 c =
-    let s = c .before .before .before .before .before .before .before .before in
-    of-row (s .args .t3) _ (s .args .clock) (s .args .f) (s .args .left) (c .before .before .before .before .before .before .before .if1 .left) (c .before .before .before .before .before .if2 .left) (table.places (s .args .t3) _ (s .good .1 .1 .0)) (c .before .before .before .if3 .taken) (c .before .before .if4 .left) (c .frame-ok .ensures)
+    let e = c .before .before .before in
+    let s = e .before .before .before .before .before .before in
+    let long = table.places (s .args .t3) _ (s .good .1 .1 .0) in
+    of-row (s .args .t3) _ (s .args .clock) (s .args .f) (s .args .left) (e .before .before .before .before .before .if1 .left) (e .before .before .before .if2 .left) long (e .before .if3 .taken) (e .if4 .left) (row-here _ (s .args .t3) (s .args .a) (s .args .b) _ _ long (e .before .if3 .taken) (e .if4 .left) (c .before .residence .ensures) (c .row-frame-ok .ensures))
 
 wire-size-requires : tie.Need-wire-size-requires
 wire-size-requires c κs = search needs
@@ -92,7 +95,8 @@ sending-ok-spec =
     returns-3
     mul-row
     element-copy-out-row
-    frame-ok-requires
+    residence-requires
+    row-frame-ok-requires
     returns-4
     wire-size-requires
     best-frame-ok-requires

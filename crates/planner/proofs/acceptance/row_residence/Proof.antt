@@ -3,10 +3,11 @@ use Prim.Native.Nat.{ℕ, _+_, _-_, _*_, _≤_}
 use native.Mathlib.Nat.{mul-le-mul, div-le-self}
 use native.Mathlib.Omega.{arith}
 use borrow.Author.Needs.{needs}
+use Rattle.planner.specs.Plan.{mostModest}
 use Rattle.planner.proofs.acceptance.row_residence.Statement.{statement}
 use Rattle.planner.proofs.acceptance.row_residence.Tie as tie
 
-product : (i : ℕ) {l : ℕ} → l ≤ 65577 → (1000000 - i) * l ≤ 65577000000
+product : (i : ℕ) {l : ℕ} → l ≤ mostModest → (1000000 - i) * l ≤ 1000000 * mostModest
 product i h = mul-le-mul {n₁ = 1000000 - i} {n₂ = 1000000} (omega arith) h
 
 sub-send : tie.Need-sub-send

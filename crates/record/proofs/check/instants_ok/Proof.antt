@@ -33,7 +33,7 @@ returns : tie.Need-returns Inv-loop μ-loop
 returns c =
     let s = c .before .before .before .before .before in
     let l = c .before .before .before .before .loop in
-    sym (late-here (s .args .clock) (s .args .t1) (s .args .n) (l .i) (c .before .before .before .loop-test .taken) (rw (last-places (s .args .t1) _ (s .good .0)) (s .pre)) (c .before .instant-ok .ensures) (c .if1 .taken)) ∙ l .inv .1
+    sym (late-here (s .args .clock) (s .args .t1) (s .args .n) (l .i) (omega (arith, c .before .before .before .loop-test .taken)) (rw (last-places (s .args .t1) _ (s .good .0)) (s .pre)) (c .before .instant-ok .ensures) (c .if1 .taken)) ∙ l .inv .1
 
 add-i : tie.Need-add-i Inv-loop μ-loop
 add-i c = omega arith
@@ -45,13 +45,13 @@ loop-again : tie.Need-loop-again Inv-loop μ-loop
 loop-again c =
     let s = c .before .before .before .before .before in
     let l = c .before .before .before .before .loop in
-    (omega arith, sym (past-here (s .args .clock) (s .args .t1) (s .args .n) (l .i) (c .before .before .before .loop-test .taken) (rw (last-places (s .args .t1) _ (s .good .0)) (s .pre)) (c .before .instant-ok .ensures) (c .if1 .left)) ∙ l .inv .1)
+    (omega arith, sym (past-here (s .args .clock) (s .args .t1) (s .args .n) (l .i) (omega (arith, c .before .before .before .loop-test .taken)) (rw (last-places (s .args .t1) _ (s .good .0)) (s .pre)) (c .before .instant-ok .ensures) (c .if1 .left)) ∙ l .inv .1)
 
 returns-2 : tie.Need-returns-2 Inv-loop μ-loop
 returns-2 c =
     let s = c .before .before in
     let l = c .before .loop in
-    sym (past-all (s .args .clock) (s .args .t1) (s .args .n) (l .i) (c .loop-test .left)) ∙ l .inv .1
+    sym (past-all (s .args .clock) (s .args .t1) (s .args .n) (l .i) (omega (arith, c .loop-test .left))) ∙ l .inv .1
 
 pub instants-ok-spec : {M : Type 1} → statement M
 instants-ok-spec =

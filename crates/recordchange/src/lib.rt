@@ -1,0 +1,2 @@
+// A call carried out on a record's bytes.
+pub mod change;

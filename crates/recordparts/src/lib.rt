@@ -1,0 +1,2 @@
+// The words of a port's parts.
+pub mod parts;
