@@ -17,30 +17,37 @@
 
 /* The version of the bytes that this header speaks of: a record's first word. A
  * record of another version is answered ITHUMECO_BROKEN and never misread. */
-#define ITHUMECO_VERSION 1000004
+#define ITHUMECO_VERSION 1000005
 
 /* Sizes in bytes. */
-#define ITHUMECO_CALL_SIZE 24
+#define ITHUMECO_CALL_SIZE 64
 #define ITHUMECO_ANSWER_SIZE 40
-#define ITHUMECO_RECORD_SIZE 5632
+#define ITHUMECO_RECORD_SIZE 5888
 #define ITHUMECO_BOUNDS_SIZE 256
 
 /* The largest table file, in bytes. */
 #define ITHUMECO_MOST_FILE 399
 
-/* Where a record has its clock and the credits of the two classes: words. */
+/* Where a record has its clock, the credits of the two classes, and the first of
+ * the 32 bounds that the port keeps, 0 at an empty number: words. Bounds behind
+ * the row count, word 4, may hold anything. */
 #define ITHUMECO_CLOCK_WORD 197
 #define ITHUMECO_CREDIT_A_WORD 198
 #define ITHUMECO_CREDIT_B_WORD 199
+#define ITHUMECO_BOUNDS_WORD 699
 
 /* The most byte-times of one advance, and the clock's last value. */
 #define ITHUMECO_MOST_ADVANCE 65535
 #define ITHUMECO_LAST_CLOCK UINT64_C(1099511627775)
 
-/* The kinds of calls: a call's first word. */
+/* The kinds of calls: a call's first word. Of its eight words those that it does
+ * not use are 0. A row has six: class (0 for A, 1 for B), payload, deadline, and
+ * then 0, period, 0 or 1, sample rate, samples. */
 #define ITHUMECO_OFFER 0      /* then row, payload */
-#define ITHUMECO_OFFER_BEST 1 /* then payload, 0 */
-#define ITHUMECO_ADVANCE 2    /* then n, 0 */
+#define ITHUMECO_OFFER_BEST 1 /* then payload */
+#define ITHUMECO_ADVANCE 2    /* then n */
+#define ITHUMECO_JOIN 3       /* then number, the row's six words */
+#define ITHUMECO_LEAVE 4      /* then number */
 
 /* In place of a frame's row. */
 #define ITHUMECO_BEST_EFFORT 32
@@ -50,7 +57,8 @@
 #define ITHUMECO_NUMBER(code) ((code) % 256)
 #define ITHUMECO_PLACE(code) ((code) / 256)
 
-/* The numbers of the refusals. A table file: */
+/* The numbers of the refusals. An answer has the number in its first word and the
+ * place in its second. A table file: */
 #define ITHUMECO_FILE_ENDS 1
 #define ITHUMECO_LETTERS 2
 #define ITHUMECO_ROW_COUNT 3
@@ -59,12 +67,13 @@
 #define ITHUMECO_STATES_DEFAULT 6
 #define ITHUMECO_TRAILING 7
 #define ITHUMECO_PERIOD_AND_RATE 19
-/* a table: */
+/* a table, that of a file or the one that a join or a leave would leave: */
 #define ITHUMECO_SLOPES 8
 #define ITHUMECO_SHARES 9
 #define ITHUMECO_DEADLINE 10
 #define ITHUMECO_TOO_MANY_FRAMES 20
-/* a call on a port, in an answer's first word: */
+/* a call on a port (a join has ITHUMECO_VALUE and a table's too, a leave
+ * ITHUMECO_SLOPES): */
 #define ITHUMECO_NO_SUCH_ROW 11
 #define ITHUMECO_PAYLOAD 12
 #define ITHUMECO_EARLY 13
@@ -72,6 +81,8 @@
 #define ITHUMECO_TOO_FAR 15
 #define ITHUMECO_PAST_LAST_CLOCK 16
 #define ITHUMECO_BROKEN 18
+#define ITHUMECO_NOT_AT_REST 21
+#define ITHUMECO_NUMBER_NOT_FREE 22
 /* and a buffer: */
 #define ITHUMECO_SHORTER_THAN_FILE 17
 #define ITHUMECO_NOT_WHOLE_CALLS 101

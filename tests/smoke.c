@@ -1,9 +1,12 @@
-/* Calls each function of include/ithumeco.h on the specimen, and some on a row that names a rate and on one with several frames in the port; holds what it gives to the documents' numbers, and the header's names to the library. */
+/* Calls each function of include/ithumeco.h on the specimen, and some on a row that names a rate, on one with several frames in the port and on one that comes and goes; holds what it gives to the documents' numbers, and the header's names to the library. */
 #include <stdio.h>
 #include <string.h>
 #include "ithumeco.h"
 
 #define CALLS 3
+#define CALL_WORDS (ITHUMECO_CALL_SIZE / 8)
+#define COUNT_WORD 4
+#define WIRE_WORD 731
 
 static int failures = 0;
 
@@ -18,14 +21,20 @@ static void expect(const char *what, uint64_t is, uint64_t should)
 static uint8_t file[512], copy[512], record[ITHUMECO_RECORD_SIZE], answer[ITHUMECO_ANSWER_SIZE], call[ITHUMECO_CALL_SIZE];
 static size_t size;
 
-/* The number that a call on the record is answered with. */
-static uint64_t made(uint64_t kind, uint64_t x, uint64_t y)
+/* The number that a call on the record is answered with: its first words, and zeros. */
+static uint64_t made_of(const uint64_t *words, size_t count)
 {
-    ithumeco_put_word(call, 0, kind);
-    ithumeco_put_word(call, 1, x);
-    ithumeco_put_word(call, 2, y);
+    memset(call, 0, sizeof call);
+    for (size_t k = 0; k < count; k++)
+        ithumeco_put_word(call, k, words[k]);
     expect("call", ithumeco_call(record, sizeof record, call, sizeof call, answer, sizeof answer), 0);
     return ithumeco_get_word(answer, 0);
+}
+
+static uint64_t made(uint64_t kind, uint64_t x, uint64_t y)
+{
+    const uint64_t words[] = {kind, x, y};
+    return made_of(words, 3);
 }
 
 static void files(void)
@@ -89,7 +98,7 @@ static void runs(void)
     static uint8_t calls[CALLS * ITHUMECO_CALL_SIZE], answers[CALLS * ITHUMECO_ANSWER_SIZE];
     for (size_t i = 0; i < CALLS; i++)
         for (size_t k = 0; k < 3; k++)
-            ithumeco_put_word(calls, 3 * i + k, list[i][k]);
+            ithumeco_put_word(calls, CALL_WORDS * i + k, list[i][k]);
     expect("replay", ithumeco_replay(file, size, calls, sizeof calls, answers, sizeof answers), 0);
     expect("taken", ithumeco_get_word(answers, 2), ITHUMECO_NO_FRAME);
     expect("reported after", ithumeco_get_word(answers, 6), 88);
@@ -97,7 +106,7 @@ static void runs(void)
     expect("its other bytes", ithumeco_get_word(answers, 11), 12);
     expect("reported once", ithumeco_get_word(answers, 12), ITHUMECO_NO_FRAME);
     expect("replay, too short", ithumeco_replay(file, size, calls, sizeof calls, answers, sizeof answers - 1), ITHUMECO_TOO_SHORT);
-    expect("replay, not whole", ithumeco_replay(file, size, calls, 23, answers, sizeof answers), ITHUMECO_NOT_WHOLE_CALLS);
+    expect("replay, not whole", ithumeco_replay(file, size, calls, 63, answers, sizeof answers), ITHUMECO_NOT_WHOLE_CALLS);
 
     static const uint64_t marks[CALLS] = {0, 1, 0};
     expect("open", ithumeco_open(file, size, record, sizeof record), 0);
@@ -105,9 +114,9 @@ static void runs(void)
     for (size_t i = 0; i < CALLS; i++) {
         expect("one by one", made(list[i][0], list[i][1], list[i][2]), 0);
         expect("the answer differs", memcmp(answer, answers + i * ITHUMECO_ANSWER_SIZE, sizeof answer) != 0, 0);
-        expect("a frame on the wire", ithumeco_get_word(record, 699), marks[i]);
+        expect("a frame on the wire", ithumeco_get_word(record, WIRE_WORD), marks[i]);
         if (marks[i] == 1)
-            expect("its bytes left", ithumeco_get_word(record, 703), 12);
+            expect("its bytes left", ithumeco_get_word(record, WIRE_WORD + 4), 12);
     }
     expect("clock", ithumeco_get_word(record, ITHUMECO_CLOCK_WORD), 100);
     expect("credit of A", ithumeco_get_word(record, ITHUMECO_CREDIT_A_WORD), (uint64_t)-75000000);
@@ -180,6 +189,49 @@ static void crowded(void)
     expect("which is B", ITHUMECO_PLACE(code), 1);
 }
 
+/* The record's row count and the bounds of its first six numbers. */
+static void kept(uint64_t count, const uint64_t bounds[6])
+{
+    expect("row count", ithumeco_get_word(record, COUNT_WORD), count);
+    for (size_t k = 0; k < 6; k++)
+        expect("a bound", ithumeco_get_word(record, ITHUMECO_BOUNDS_WORD + k), bounds[k]);
+}
+
+/* A row of class A with 400 bytes on the wire that joins the specimen's at number 5 and leaves. With it A's sum of sizes is 800 and its largest size 400: row 0
+ * has 100 + 1542 + (700 + 0.75 * 400) / 0.25 - 12 = 5630, row 1 300 + 1542 + (500 + 300) / 0.25 - 12 = 5030 and row 5 400 + 1542 + (400 + 300) / 0.25 - 12 = 4730,
+ * and row 2 waits for 100 bytes of A more than without it, 4944. A frame of it costs 400 * 0.75 of credit, which 1200 byte-times give back. */
+static void patched(void)
+{
+    static const uint64_t join[] = {ITHUMECO_JOIN, 5, 0, 358, 15625, 0, 15625, 0}, empty[] = {ITHUMECO_JOIN, 7, 0, 0, 0, 0, 0, 0};
+    static const uint64_t of_b[] = {ITHUMECO_JOIN, 3, 1, 42, 15625, 1, 48000, 12};
+    expect("open", ithumeco_open(file, size, record, sizeof record), 0);
+    kept(3, (const uint64_t[]){3730, 3130, 4844, 0, 0, 0});
+    expect("an empty row", made_of(empty, CALL_WORDS), ITHUMECO_VALUE);
+    expect("its place", ithumeco_get_word(answer, 1), 7);
+    expect("joined", made_of(join, CALL_WORDS), 0);
+    expect("no frame", ithumeco_get_word(answer, 2), ITHUMECO_NO_FRAME);
+    kept(6, (const uint64_t[]){5630, 5030, 4944, 0, 0, 4730});
+    expect("a number in use", made_of(join, CALL_WORDS), ITHUMECO_NUMBER_NOT_FREE);
+    expect("an empty number", made(ITHUMECO_OFFER, 4, 0), ITHUMECO_NO_SUCH_ROW);
+    expect("taken", made(ITHUMECO_OFFER, 5, 358), 0);
+    expect("its frame waits", made(ITHUMECO_LEAVE, 5, 0), ITHUMECO_NOT_AT_REST);
+    expect("its report", made(ITHUMECO_ADVANCE, 5000, 0), 0);
+    expect("after", ithumeco_get_word(answer, 1), 388);
+    expect("row that is reported", ithumeco_get_word(answer, 2), 5);
+    expect("its gap and nearly all of its credit", made(ITHUMECO_ADVANCE, 12 + 1199, 0), 0);
+    expect("its credit is not back", made(ITHUMECO_LEAVE, 5, 0), ITHUMECO_NOT_AT_REST);
+    expect("one byte-time more", made(ITHUMECO_ADVANCE, 1, 0), 0);
+    expect("left", made(ITHUMECO_LEAVE, 5, 0), 0);
+    kept(3, (const uint64_t[]){3730, 3130, 4844, 0, 0, 4730}); /* what stands behind the count stays */
+    expect("no such row", made(ITHUMECO_OFFER, 5, 358), ITHUMECO_NO_SUCH_ROW);
+    expect("the last row of B", made(ITHUMECO_LEAVE, 2, 0), ITHUMECO_SLOPES);
+    expect("joined again", made_of(join, CALL_WORDS), 0);
+    expect("and offered to at once", made(ITHUMECO_OFFER, 5, 358), 0);
+    expect("another of B", made_of(of_b, CALL_WORDS), 0);
+    ithumeco_put_word(record, ITHUMECO_BOUNDS_WORD + 4, 1);
+    expect("a bound at an empty number", made(ITHUMECO_ADVANCE, 0, 0), ITHUMECO_BROKEN);
+}
+
 static void refusals(void)
 {
     expect("open", ithumeco_open(file, size, record, sizeof record), 0);
@@ -234,6 +286,7 @@ int main(void)
     runs();
     rated();
     crowded();
+    patched();
     refusals();
     nothing();
     return failures != 0;

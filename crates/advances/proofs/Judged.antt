@@ -16,7 +16,7 @@ use Rattle.machine.specs.Limits.{lastClock, mostSteps}
 use Rattle.machine.specs.State.{State, view}
 use Rattle.machine.specs.Time.{progress}
 use Rattle.machine.specs.Record.{sound}
-use Rattle.machine.specs.Calls.{advance, passed, advanceCheck, answerBy, numberOf, advanceAnswer, Gives}
+use Rattle.machine.specs.Calls.{advance, passed, advanceCheck, answerBy, numberOf, placeOf, advanceAnswer, Gives}
 use Rattle.machine.specs.Effects.{replyAnswer, Comes}
 use Rattle.machine.proofs.FromSound.{clauses}
 use Rattle.bytetime.specs.declared.Ran.{Ran}
@@ -51,7 +51,7 @@ clock-of p = refl
 
 -- what an advance comes to
 module _ (p : Port) (n : ℕ) {e : Effect} where
-  pub advance-refused : (d : Denial) → advanceCheck (view p) n ≡ refused (numberOf d) 0 → e ≡ stay p d → Comes p (advance n) e
+  pub advance-refused : (d : Denial) → advanceCheck (view p) n ≡ refused (numberOf d) (placeOf d) → e ≡ stay p d → Comes p (advance n) e
   advance-refused d h q = refuses p (advance n) d (rw h refl) (rw h refl) q
 
   pub advance-accepted : (ran : Ran) → sound (view p) ≡ true → advanceCheck (view p) n ≡ accepted → SameRun (view p) (progress n (view p)) ran → e ≡ ranEffect p ran → Comes p (advance n) e

@@ -40,8 +40,8 @@ fn refused(p: Port, d: Denial) -> Effect
     }
 }
 
-// What an advance by n byte-times comes to; `whole` is what the record check says. The first check that fails decides: broken record, more than 65,535, past the last clock.
-// Else byte-times pass until a frame is reported or n have passed.
+// What an advance by n byte-times comes to; `whole` is what the record check says (told otherwise, what it comes to is free). The first check that fails decides: broken record, more
+// than 65,535, past the last clock. Else byte-times pass until a frame is reported or n have passed.
 pub fn judge(p: Port, whole: bool, n: u64) -> Effect
     ensures { λ e. ⌜ (whole ≡ sound (view p) → Comes p (advance n) e) ⌝ }
 {

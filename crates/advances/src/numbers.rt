@@ -16,6 +16,7 @@ use machine::Wire;
 use table::Class;
 use table::ROWS;
 use table::Table;
+use table::rows::is_there;
 
 // What byte-times leave alone.
 pub fn fixed(p: Port) -> Fixed
@@ -45,20 +46,23 @@ fn class_sender(class: Class) -> Sender
     }
 }
 
-// Whose a frame is: of its row's class, or best effort. (A row without a place, which no sound record has, is one of zeros, of class A.)
+// Whose a frame is: of its row's class, or best effort. (A row without a place, which no sound record has, is one of zeros, and so not there.)
 fn sender(t: Table, f: Frame) -> Sender
     ensures { λ r. ⌜ r ≡ senderBy (owner (contents t) f) ⌝ }
 {
     let k = f.source as usize;
-    if k < t.count {
-        if ROWS <= k {
-            return Sender::ClassA;
-        }
-        let row = t.rows[k];
-        let class = row.class;
-        return class_sender(class);
+    if t.count <= k {
+        return Sender::BestEffort;
     }
-    Sender::BestEffort
+    if ROWS <= k {
+        return Sender::BestEffort;
+    }
+    let row = t.rows[k];
+    if !is_there(row) {
+        return Sender::BestEffort;
+    }
+    let class = row.class;
+    class_sender(class)
 }
 
 fn hot_with(p: Port, sender: Sender, left: u32) -> Hot

@@ -133,6 +133,7 @@ over-silent false left e = refl
 -- ---- the numbers stand for a state s that byte-times lead to from s₀
 pub record Tied (s₀ s : State) (h : Hot) : Type 0 where
   pub table : s .table ≡ s₀ .table
+  pub bounds : s .bounds ≡ s₀ .bounds
   pub last : s .last ≡ s₀ .last
   pub credita : h .credita ≡ s .credita
   pub creditb : h .creditb ≡ s .creditb
@@ -185,6 +186,7 @@ module _ (s₀ : State) (fits : Fits s₀) where
         let w : some (s₀ .a) ≡ true = ap some (sym whole-a) ∙ sym (t .waitsa) ∙ e in
         record {
           table = t .table;
+          bounds = t .bounds;
           last = t .last;
           credita = t .credita;
           creditb = t .creditb;
@@ -205,6 +207,7 @@ module _ (s₀ : State) (fits : Fits s₀) where
         let w : some (s₀ .b) ≡ true = ap some (sym whole-b) ∙ sym (t .waitsb) ∙ e in
         record {
           table = t .table;
+          bounds = t .bounds;
           last = t .last;
           credita = t .credita;
           creditb = t .creditb;
@@ -225,6 +228,7 @@ module _ (s₀ : State) (fits : Fits s₀) where
         let w : some (s₀ .best) ≡ true = sym (t .waitsbest) ∙ e in
         record {
           table = t .table;
+          bounds = t .bounds;
           last = t .last;
           credita = t .credita;
           creditb = t .creditb;
@@ -244,6 +248,7 @@ module _ (s₀ : State) (fits : Fits s₀) where
         let n = none-out (s₀ .best) (sym (t .waitsbest) ∙ e) in
         record {
           table = t .table;
+          bounds = t .bounds;
           last = t .last;
           credita = t .credita;
           creditb = t .creditb;
@@ -348,6 +353,7 @@ module _ (s₀ : State) (fits : Fits s₀) where
               let m = over-unmoved e in
               record {
                 table = t .table;
+                bounds = t .bounds;
                 last = t .last;
                 credita = credit-a;
                 creditb = credit-b;
@@ -364,6 +370,7 @@ module _ (s₀ : State) (fits : Fits s₀) where
           by-over false e =
               record {
                 table = t .table;
+                bounds = t .bounds;
                 last = t .last;
                 credita = credit-a;
                 creditb = credit-b;
@@ -446,6 +453,7 @@ module _ (s₀ : State) (fits : Fits s₀) where
   begins =
       record {
         table = refl;
+        bounds = refl;
         last = refl;
         credita = refl;
         creditb = refl;
@@ -477,8 +485,8 @@ module _ (s₀ : State) (fits : Fits s₀) where
   agrees zero = record { passed = refl; ended = refl; unreported = λ _. begins-unreported; clock = omega arith; tied = begins }
   agrees (suc n) = agree-next (progress n s₀) (runHot n (hotOf s₀) x) (agrees n)
 
-same-state : (s : State) {t : Contents} {now : ℕ} {ca cb : ℤ} {a b best : List Frame} {last : List Instant} {w : Wire} → s .table ≡ t → s .clock ≡ now → ca ≡ s .credita → cb ≡ s .creditb → s .a ≡ a → s .b ≡ b → s .best ≡ best → s .last ≡ last → s .wire ≡ w → s ≡ record { table = t; clock = now; credita = ca; creditb = cb; a = a; b = b; best = best; last = last; wire = w }
-same-state s et ec ea eb qa qb qbest el ew = rw (← et, ← ec, ea, eb, ← qa, ← qb, ← qbest, ← el, ← ew) refl
+same-state : (s : State) {t : Contents} {bs : List ℕ} {now : ℕ} {ca cb : ℤ} {a b best : List Frame} {last : List Instant} {w : Wire} → s .table ≡ t → s .bounds ≡ bs → s .clock ≡ now → ca ≡ s .credita → cb ≡ s .creditb → s .a ≡ a → s .b ≡ b → s .best ≡ best → s .last ≡ last → s .wire ≡ w → s ≡ record { table = t; bounds = bs; clock = now; credita = ca; creditb = cb; a = a; b = b; best = best; last = last; wire = w }
+same-state s et ebs ec ea eb qa qb qbest el ew = rw (← et, ← ebs, ← ec, ea, eb, ← qa, ← qb, ← qbest, ← el, ← ew) refl
 
 -- byte-times on a port's numbers are the machine's byte-times
 pub as-machine : AsMachine
@@ -486,4 +494,4 @@ unfolding afterRun
 as-machine s f n =
     let g = agrees s f n in
     let t = g .tied in
-    record { passed = g .passed; ended = g .ended; state = same-state (progress n s .state) (t .table) (g .clock) (t .credita) (t .creditb) (t .a) (t .b) (t .best) (t .last) (t .wire) }
+    record { passed = g .passed; ended = g .ended; state = same-state (progress n s .state) (t .table) (t .bounds) (g .clock) (t .credita) (t .creditb) (t .a) (t .b) (t .best) (t .last) (t .wire) }

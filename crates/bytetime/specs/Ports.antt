@@ -99,6 +99,7 @@ unfoldable pub afterRun : State → Ran → State
 afterRun s r =
     record {
       table = s .table;
+      bounds = s .bounds;
       clock = s .clock + r .passed;
       credita = r .hot .credita;
       creditb = r .hot .creditb;

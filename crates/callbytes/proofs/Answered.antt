@@ -1,10 +1,10 @@
--- Calls read and answers written.
+-- Answers written.
 use Prim.Native.Nat.{ℕ, _≤_, _<_}
 use mathlib.Core.List.{List, [], _∷_, _++_}
 use mathlib.Core.Path.{_≡_, refl, _∙_, ap}
 use native.Mathlib.Omega.{arith}
 use lib.ListN.{length, drop}
-use borrow.Author.Tests.{eq-eqb, ne-eqb, le-leb, lt-leb}
+use borrow.Author.Tests.{le-leb, lt-leb}
 use Rattle.machine.specs.declared.Frame.{Frame}
 use Rattle.machine.specs.declared.Denial.{Denial}
 use Rattle.machine.specs.declared.Ended.{Ended}
@@ -12,23 +12,11 @@ use Rattle.machine.specs.declared.Ended.the-variants.{Reported, Nothing}
 use Rattle.machine.specs.declared.Reply.{Reply}
 use Rattle.machine.specs.declared.Reply.the-variants.{Taken, Passed, Refused}
 use Rattle.machine.specs.Limits.{noMark}
-use Rattle.machine.specs.Calls.{Answer, taken, passed, denied, numberOf}
+use Rattle.machine.specs.Calls.{Answer, taken, passed, denied, numberOf, placeOf}
 use Rattle.machine.specs.Effects.{replyAnswer}
-use Rattle.callbytes.specs.declared.Asked.{Asked}
-use Rattle.callbytes.specs.declared.Asked.the-variants.{Unreadable}
-use Rattle.words.specs.Words.{flat, wordBytes, wordAt, put}
-use Rattle.callbytes.specs.Calls.{callSize, answerSize, callBy, readCall, answerBytes, fronted, isDenied}
+use Rattle.words.specs.Words.{flat, wordBytes, put}
+use Rattle.callbytes.specs.Calls.{answerSize, answerBytes, fronted, isDenied}
 use Rattle.words.proofs.Laws.{more, four, stored-front, stored-length, put-fits}
-
--- ---- a call
-module _ (s : List ℕ) where
-  pub no-call : (length s ≡ callSize → ⊥) → Unreadable ≡ readCall s
-  unfolding readCall
-  no-call h = rw (ne-eqb (length s) callSize h) refl
-
-  pub call-named : {r : Asked} {a b c : ℕ} → length s ≡ callSize → a ≡ wordAt s 0 → b ≡ wordAt s 1 → c ≡ wordAt s 2 → r ≡ callBy a b c → r ≡ readCall s
-  unfolding readCall
-  call-named h e f g i = i ∙ rw (e, f, g, eq-eqb (length s) callSize h) refl
 
 -- ---- an answer
 pub reply-flag : {x y : Reply} → x ≡ y → isDenied (replyAnswer y) ≡ isDenied (replyAnswer x)
@@ -93,6 +81,6 @@ module _ (s : List ℕ) {t : List ℕ} where
   pub reply-passed : {x : Reply} {n : ℕ} {e : Ended} → x ≡ Passed n e → t ≡ fronted (answerBytes (passed n e)) s → t ≡ fronted (answerBytes (replyAnswer x)) s
   reply-passed e h = rw e h
 
-  pub reply-refused : (n : ℕ) {x : Reply} {d : Denial} → x ≡ Refused d → n ≡ numberOf d → t ≡ fronted (flat wordBytes (n ∷ 0 ∷ noMark ∷ 0 ∷ 0 ∷ [])) s → t ≡ fronted (answerBytes (replyAnswer x)) s
+  pub reply-refused : (n p : ℕ) {x : Reply} {d : Denial} → x ≡ Refused d → n ≡ numberOf d → p ≡ placeOf d → t ≡ fronted (flat wordBytes (n ∷ p ∷ noMark ∷ 0 ∷ 0 ∷ [])) s → t ≡ fronted (answerBytes (replyAnswer x)) s
   unfolding answerBytes
-  reply-refused n e f h = rw (e, ← f) h
+  reply-refused n p e f g h = rw (e, ← f, ← g) h

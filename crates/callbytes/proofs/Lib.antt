@@ -1,4 +1,5 @@
--- Laws that belong to no one function. `Trip` has the theorems; `Laws` is what the crates above may cite.
+mod Named
 mod Answered
+mod Held
 pub mod Trip
 pub mod Laws

@@ -9,20 +9,22 @@ use machine::Ended;
 use machine::NO_MARK;
 use machine::Reply;
 use machine::numbers::number;
+use machine::numbers::place;
 use words::words::put_word;
 
 // The bytes of an answer.
 pub const ANSWER_SIZE: usize = 40;
 
-// The words of an answer at the front of a buffer; the bytes behind them keep their values. A buffer that is too short keeps every byte.
-pub fn put_answer(out: &mut [u8], number: u64, passed: u64, source: u64, size: u64, taken: u64)
-    ensures { λ _. ⌜ now (out .exit) ≡ fronted (flat wordBytes (number ∷ passed ∷ source ∷ size ∷ taken ∷ [])) (now (out .entry)) ⌝ }
+// The words of an answer at the front of a buffer; the bytes behind them keep their values. A buffer that is too short keeps every byte. The second
+// word is the place of a refusal, else the byte-times passed.
+pub fn put_answer(out: &mut [u8], number: u64, second: u64, source: u64, size: u64, taken: u64)
+    ensures { λ _. ⌜ now (out .exit) ≡ fronted (flat wordBytes (number ∷ second ∷ source ∷ size ∷ taken ∷ [])) (now (out .entry)) ⌝ }
 {
     if out.len() < ANSWER_SIZE {
         return;
     }
     put_word(out, 0, number);
-    put_word(out, 1, passed);
+    put_word(out, 1, second);
     put_word(out, 2, source);
     put_word(out, 3, size);
     put_word(out, 4, taken);
@@ -53,7 +55,7 @@ pub fn write_reply(out: &mut [u8], reply: Reply) -> bool
             false
         }
         Reply::Refused(d) => {
-            put_answer(out, number(d), 0, NO_MARK as u64, 0, 0);
+            put_answer(out, number(d), place(d) as u64, NO_MARK as u64, 0, 0);
             true
         }
     }

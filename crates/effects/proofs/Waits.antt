@@ -1,17 +1,19 @@
 -- The frames that wait in a queue's places where one joins them or their head leaves, and the instants of a table's rows.
-use Prim.Native.Nat.{ℕ, zero, suc, _+_, _-_, _≤_, _<_}
-use mathlib.Core.List.{List, [], _∷_, _++_}
+use Prim.Native.Nat.{ℕ, zero, suc, _+_, _≤_, _<_}
+use mathlib.Core.List.{List, [], _∷_, _++_, map}
 use mathlib.Core.Path.{_≡_, refl, _∙_, ap}
 use native.Mathlib.Numerals.{add-one}
 use native.Mathlib.Omega.{arith}
 use borrow.Author.Tests.{lt-ltb, le-ltb, le-leb, lt-leb}
-use lib.ListN.{length, set, length-set}
+use lib.ListN.{length, set, length-set, length-map}
 use lib.Seq.{take-suc-set}
+use Rattle.table.specs.declared.Row.{Row}
 use Rattle.machine.specs.declared.Frame.{Frame}
 use Rattle.machine.specs.declared.Last.{Last}
-use Rattle.machine.specs.State.{Instant, waiting, instantOf, instantsOf}
+use Rattle.machine.specs.State.{Instant, waiting, instantOf, instantsFor, instantsOf}
 use Rattle.machine.specs.Time.{behindHead}
 use Rattle.machine.proofs.Places.{waits, waiting-length}
+use Rattle.machine.proofs.Instants.{for-set-again}
 use Rattle.effects.specs.Queues.{withFrame, withoutHead}
 
 -- what the tests of a queue's places come to
@@ -40,14 +42,10 @@ module _ (places n : ℕ) (xs : List Frame) where
         rw (room-left places (waiting n xs) f free) (waits (n + 1) (set xs n f) few ∙ rw (add-one, take-suc-set xs n f here, waits n xs (omega arith)) refl)
 
 -- the last instant of a row is set
-pub instant-set : (ls : List Last) (n k : ℕ) (l : Last) → k < length ls → instantsOf n (set ls k l) ≡ set (instantsOf n ls) k (instantOf l)
-instant-set ls zero k l h =
-    let e : 0 - length ls ≡ 0 = omega arith in
-    let d : 0 - length (set ls k l) ≡ 0 = omega arith in
-    rw (e, d) refl
-instant-set [] (suc n) k l h = absurd (omega arith)
-instant-set (x ∷ ls) (suc n) zero l h = refl
-instant-set (x ∷ ls) (suc n) (suc k) l h =
-    let e : suc n - suc (length ls) ≡ n - length ls = omega arith in
-    let d : suc n - suc (length (set ls k l)) ≡ n - length (set ls k l) = omega arith in
-    rw (e, d) (ap (λ (is : List Instant). instantOf x ∷ is) (instant-set ls n k l (omega arith)))
+map-set : (ls : List Last) (k : ℕ) (l : Last) → map instantOf (set ls k l) ≡ set (map instantOf ls) k (instantOf l)
+map-set [] k l = refl
+map-set (x ∷ ls) zero l = refl
+map-set (x ∷ ls) (suc k) l = ap (λ (is : List Instant). instantOf x ∷ is) (map-set ls k l)
+
+pub instant-set : (rs : List Row) (ls : List Last) (k : ℕ) (l : Last) → k < length ls → instantsOf rs (set ls k l) ≡ instantsFor rs (set (instantsOf rs ls) k (instantOf l))
+instant-set rs ls k l h = ap (λ (is : List Instant). instantsFor rs is) (map-set ls k l) ∙ for-set-again rs (map instantOf ls) k (instantOf l) (rw (length-map ls instantOf) h)

@@ -20,6 +20,7 @@ pub fn settled(p: Port, e: Effect) -> Port
     ensures { λ r. ⌜ r ≡ settledOn e p ⌝ }
 {
     let table = p.table;
+    let bounds = p.bounds;
     let a = p.a;
     let b = p.b;
     let best = p.best;
@@ -27,6 +28,7 @@ pub fn settled(p: Port, e: Effect) -> Port
     let wire = e.wire;
     Port {
         table,
+        bounds,
         clock: e.clock,
         credita: e.credita,
         creditb: e.creditb,

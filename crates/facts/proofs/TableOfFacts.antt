@@ -1,40 +1,44 @@
--- Document 01's facts (a) to (g), those of rows that name a sample rate, those of deadlines longer than the period (C-12), and those of the gap behind a report (C-13), by computing the definitions.
+-- Document 01's facts (a) to (g), those of rows that name a sample rate, those of deadlines longer than the period (C-12), of the gap behind a report (C-13), and of rows that join and leave (C-15), by computing the definitions.
 use Prim.Native.Nat.{ℕ, _+_, _-_, _≤_}
 use mathlib.Core.Bool.{false}
 use mathlib.Core.List.{[], _∷_}
 use mathlib.Core.Path.{_≡_, refl, _∙_, ap}
 use native.Mathlib.Omega.{arith}
-use lib.IntN.{pos}
+use lib.IntN.{pos, negsuc}
 use borrow.Author.Tests.{le-ltb}
 use Rattle.table.specs.Wire.{ceilDiv, wireSize, sizeFor, sizeOf, paced, periodOf, shareOf}
-use Rattle.table.specs.Rows.{rowsOf, inUse}
+use Rattle.table.specs.Rows.{isThere, rowsOf, inUse, countRight, rowsWith, trimmed, rowsWithout, withRow, withoutRow}
 use Rattle.table.specs.Checks.{accepted, passing}
 use Rattle.table.specs.Ranges.{countOk, headerOk, paceOk, rowOk, ranged}
-use Rattle.table.proofs.Laws.{rated-period}
+use Rattle.table.proofs.Laws.{rated-period, there-used}
 use Rattle.planner.specs.Sums.{sumOver, maxOver, members, largest, total, shares, bestSize}
-use Rattle.planner.specs.Bound.{blocking, residenceIn, residence, bound, mostOf, mostIn, bounds, residences}
-use Rattle.planner.specs.Opening.{usedOk, slopesOk, sharesOk, timely, roomOk, opening}
+use Rattle.planner.specs.Bound.{blocking, residenceIn, residence, bound, mostOf, mostIn, boundsOf, bounds}
+use Rattle.planner.specs.Opening.{usedOk, slopesOk, sharesOk, timely, roomOk, opening, rangedAround, standing}
 use Rattle.machine.specs.declared.Frame.{Frame}
 use Rattle.machine.specs.declared.Wire.the-variants.{Free, Sending}
-use Rattle.machine.specs.State.{Instant, never, at, State, fresh}
+use Rattle.machine.specs.State.{Instant, never, at, State, instantsFor, fresh}
 use Rattle.machine.specs.Time.{owner, start, reportedIn, byteTime, endsIn, progress}
-use Rattle.machine.specs.Record.{tableSound, clockSound, creditSound, bestSound, namesSound, queuesSound, sizesSound, leftSound, framesTaken, rowsTaken, takenOf, heldSound, apartSound, latestSound, ageSound, sound}
-use Rattle.machine.specs.Calls.{offer, advance, tooSoon, after, answer, offerCheck, bestCheck, advanceCheck, takeRow, takeBest}
-use Rattle.machine.specs.Run.{clockOf, lastTaken}
+use Rattle.machine.specs.Record.{tableSound, countSound, boundsSound, clockSound, creditSound, bestSound, namesSound, queuesSound, sizesSound, leftSound, framesTaken, rowsTaken, takenOf, heldSound, apartSound, latestSound, ageSound, sound}
+use Rattle.machine.specs.Calls.{offer, advance, leave, tooSoon, after, answer, offerCheck, bestCheck, advanceCheck, isOpen, joinCheck, quiet, leaveCheck, takeRow, takeBest, joinRow, leaveRow}
+use Rattle.machine.specs.Run.{clockOf, tableOf, lastTaken}
 use Rattle.machine.proofs.EveryList.{every-list-ran}
 use Rattle.tablefile.specs.Layout.{valueAt, bytesOf, defaultPayload, defaultPeriod, defaultDeadline, bitOf}
 use Rattle.tablefile.specs.Reading.{opens, header, pacedFrom, rowFrom, row, rowsChecks, rowsFrom, rowsEnd, readFile}
 use Rattle.tablefile.specs.Writing.{mapByte, rowBytes, rowsBytes, headerBytes, fileOf}
 use Rattle.facts.specs.Specimen.{specimen, sampled, sampledTable, often}
-use Rattle.facts.specs.Facts.{played, port, inG, soon, twice, NeverEarly, four, almost, Facts}
+use Rattle.facts.specs.Facts.{played, port, inG, almostQuiet, anew, soon, twice, NeverEarly, four, almost, Facts}
 
 -- the port of (g) before the second offer: worked out once, for three facts
 abbrev stateG : State
-stateG = record { table = specimen; clock = 15624; credita = pos 0; creditb = pos 0; a = []; b = []; best = []; last = at 0 ∷ never ∷ never ∷ []; wire = Free }
+stateG = record { table = specimen; bounds = 3730 ∷ 3130 ∷ 4844 ∷ []; clock = 15624; credita = pos 0; creditb = pos 0; a = []; b = []; best = []; last = at 0 ∷ never ∷ never ∷ []; wire = Free }
+
+-- that of C-15, one byte-time before credit A is 0 again
+abbrev stateQ : State
+stateQ = record { table = specimen; bounds = 3730 ∷ 3130 ∷ 4844 ∷ []; clock = 399; credita = negsuc 249999; creditb = pos 0; a = []; b = []; best = []; last = at 0 ∷ never ∷ never ∷ []; wire = Free }
 
 -- those of the sampled specimen: at a clock, row 0's last frame taken at an instant
 abbrev stateAt : ℕ → ℕ → State
-stateAt now taken = record { table = sampled; clock = now; credita = pos 0; creditb = pos 0; a = []; b = []; best = []; last = at taken ∷ never ∷ never ∷ []; wire = Free }
+stateAt now taken = record { table = sampled; bounds = 3730 ∷ 3130 ∷ 4844 ∷ []; clock = now; credita = pos 0; creditb = pos 0; a = []; b = []; best = []; last = at taken ∷ never ∷ never ∷ []; wire = Free }
 
 -- those of C-12: with four frames of the row in the port; at 480, the first has left and the second is on the wire
 abbrev oftenFrame : ℕ → Frame
@@ -44,6 +48,7 @@ abbrev stateFour : State
 stateFour =
     record {
       table = often;
+      bounds = 462 ∷ [];
       clock = 361;
       credita = pos 270000000;
       creditb = pos 0;
@@ -58,6 +63,7 @@ abbrev stateFifth : State
 stateFifth =
     record {
       table = often;
+      bounds = 462 ∷ [];
       clock = 480;
       credita = pos 241250000;
       creditb = pos 0;
@@ -73,23 +79,25 @@ not-soon : (l : Instant) (now instant gap : ℕ) → l ≡ at instant → now �
 not-soon l now instant gap e f h = rw e (le-ltb (now - instant) 17006 (omega arith))
 
 accepts : opening sampled ≡ accepted
-unfolding ceilDiv wireSize sizeFor sizeOf paced periodOf shareOf rowsOf inUse passing countOk headerOk paceOk rowOk ranged sumOver maxOver members largest total shares bestSize blocking residenceIn residence bound mostOf mostIn bounds usedOk slopesOk sharesOk timely roomOk opening
+unfolding ceilDiv wireSize sizeFor sizeOf paced periodOf shareOf isThere rowsOf inUse passing countOk headerOk paceOk rowOk ranged sumOver maxOver members largest total shares bestSize blocking residenceIn residence bound mostOf mostIn usedOk slopesOk sharesOk timely roomOk opening
 accepts = refl
 
 never-early : NeverEarly
-unfolding rowsOf periodOf paced
-never-early cs payload instant gap a before h few last long now =
+unfolding rowsOf isThere periodOf paced
+never-early cs payload instant gap a before h own few last long now =
     let d = every-list-ran sampledTable accepts cs .demand3 in
-    d .space 0 payload a before h (record { below = omega arith }) few (not-soon (lastTaken 0 before) (clockOf before) instant gap last now long)
+    let t = tableOf sampled before in
+    d .space 0 payload a before h (there-used t 0 (rw own refl)) (rw own few) (rw own (not-soon (lastTaken 0 before) (clockOf before) instant gap last now long))
 
 pub facts : Facts
-unfolding ceilDiv wireSize sizeFor sizeOf paced periodOf shareOf rowsOf inUse passing countOk headerOk paceOk rowOk ranged sumOver maxOver members largest total shares bestSize blocking residenceIn residence bound mostOf mostIn bounds residences usedOk slopesOk sharesOk timely roomOk opening fresh owner start reportedIn byteTime endsIn progress tableSound clockSound creditSound bestSound namesSound queuesSound sizesSound leftSound framesTaken rowsTaken takenOf heldSound apartSound latestSound ageSound sound offerCheck bestCheck advanceCheck takeRow takeBest valueAt bytesOf defaultPayload defaultPeriod defaultDeadline bitOf opens header pacedFrom rowFrom row rowsChecks rowsFrom rowsEnd readFile mapByte rowBytes rowsBytes headerBytes fileOf
+unfolding ceilDiv wireSize sizeFor sizeOf paced periodOf shareOf isThere rowsOf inUse passing countOk headerOk paceOk rowOk ranged sumOver maxOver members largest total shares bestSize blocking residenceIn residence bound mostOf mostIn boundsOf bounds usedOk slopesOk sharesOk timely roomOk opening rangedAround standing countRight rowsWith trimmed rowsWithout withRow withoutRow instantsFor fresh owner start reportedIn byteTime endsIn progress tableSound countSound boundsSound clockSound creditSound bestSound namesSound queuesSound sizesSound leftSound framesTaken rowsTaken takenOf heldSound apartSound latestSound ageSound sound offerCheck bestCheck advanceCheck isOpen joinCheck quiet leaveCheck takeRow takeBest joinRow leaveRow valueAt bytesOf defaultPayload defaultPeriod defaultDeadline bitOf opens header pacedFrom rowFrom row rowsChecks rowsFrom rowsEnd readFile mapByte rowBytes rowsBytes headerBytes fileOf
 facts =
     let g : port inG ≡ stateG = refl in
     let o : played (fresh sampled) soon ≡ stateAt 17005 0 = refl in
     let w : played (stateAt 17006 0) twice ≡ stateAt 34013 17006 = refl in
     let h : played (fresh often) four ≡ stateFour = refl in
     let f : played stateFour almost ≡ stateFifth = refl in
+    let q : port almostQuiet ≡ stateQ = refl in
     record {
       table = refl;
       reads = refl;
@@ -161,4 +169,28 @@ facts =
       count-most = refl;
       age-below = refl;
       age-reached = refl;
+      kept-bounds = refl;
+      fourth-taken = refl;
+      fourth-bounds = refl;
+      join-taken = refl;
+      join-bounds = refl;
+      join-empty = refl;
+      join-offer = refl;
+      join-left = refl;
+      join-used = refl;
+      join-above = refl;
+      join-none = refl;
+      join-late = refl;
+      join-first = refl;
+      raised-before = refl;
+      raised-after = refl;
+      raised-report = refl;
+      raised-clock = refl;
+      leave-wire = refl;
+      leave-credit = ap (λ s. answer s (leave 0)) q;
+      leave-taken = ap (λ s. answer (after s (advance 1)) (leave 0)) q;
+      leave-last = refl;
+      leave-none = refl;
+      again-early = ap (λ s. answer (after s (advance 1)) (offer 0 58)) q;
+      again-taken = ap (λ s. answer (played (after s (advance 1)) anew) (offer 0 58)) q;
     }

@@ -1,4 +1,5 @@
--- One table of facts: what the definitions themselves give for the specimen, for the same with two rows that name a sample rate, for C-12's tables, and for C-13. The figures are C-13's.
+-- One table of facts: what the definitions themselves give for the specimen, for the same with two rows that name a sample rate, for C-12's tables, for C-13, and for rows that join and leave (C-15). The
+-- figures are C-13's.
 use Prim.Native.Nat.{ℕ, _+_, _≤_}
 use mathlib.Core.List.{List, [], _∷_, _++_, map}
 use mathlib.Core.Bool.{true, false}
@@ -8,20 +9,20 @@ use lib.ListN.{replicate}
 use Rattle.table.specs.declared.Class.the-variants.{A, B}
 use Rattle.table.specs.declared.Pace.the-variants.{Rated}
 use Rattle.table.specs.Wire.{wireSize, sizeOf, paced, periodOf, shareOf}
-use Rattle.table.specs.Rows.{contents}
+use Rattle.table.specs.Rows.{noRow, contents, rowAt}
 use Rattle.table.specs.Checks.{accepted, refused}
 use Rattle.table.specs.Ranges.{paceOk}
-use Rattle.planner.specs.Bound.{blocking, residence, bound, mostOf, mostIn, bounds, residences}
+use Rattle.planner.specs.Bound.{blocking, residence, bound, mostOf, mostIn, bounds}
 use Rattle.planner.specs.Opening.{opening}
 use Rattle.machine.specs.declared.Wire.the-variants.{Free, Sending}
 use Rattle.machine.specs.declared.Ended.the-variants.{Reported, Nothing}
 use Rattle.machine.specs.State.{never, at, State, fresh}
 use Rattle.machine.specs.Record.{takenOf, sound}
-use Rattle.machine.specs.Calls.{Call, offer, offerBest, advance, Answer, taken, passed, denied, after, answer}
-use Rattle.machine.specs.Run.{Event, event, clockOf, answered, Happened, lastTaken}
+use Rattle.machine.specs.Calls.{Call, offer, offerBest, advance, join, leave, Answer, taken, passed, denied, after, answer}
+use Rattle.machine.specs.Run.{Event, event, clockOf, tableOf, answered, Happened, lastTaken}
 use Rattle.tablefile.specs.Reading.{readFile}
 use Rattle.tablefile.specs.Writing.{fileOf}
-use Rattle.facts.specs.Specimen.{specimen, specimenWith, specimenTable, specimenBytes, sampled, sampledTable, sampledBytes, oftenRow, oftenWith, often, oftenTable, oftenBytes, crowded}
+use Rattle.facts.specs.Specimen.{rowA, rowB, rowLong, specimen, specimenWith, specimenTable, specimenBytes, sampled, sampledTable, sampledBytes, oftenRow, oftenWith, often, oftenTable, oftenBytes, seldom, crowded, small}
 
 -- The port after calls, the first one first.
 abbrev pub played : State → List Call → State
@@ -56,10 +57,10 @@ once = offer 0 58 ∷ advance 88 ∷ advance 16917 ∷ advance 1 ∷ []
 abbrev pub twice : List Call
 twice = offer 0 58 ∷ advance 88 ∷ advance 16919 ∷ []
 
--- In every list of calls on the sampled specimen's port, an offer to row 0, of at most its payload, that comes 17,006 byte-times or more after its last frame was taken is taken: a stream that is
--- offered every 17,006 and 17,007 byte-times in turn is never early.
+-- In every list of calls on the sampled specimen's port, an offer to row 0, while it is the table's own and of at most its payload, that comes 17,006 byte-times or more after its last frame was
+-- taken is taken: a stream that is offered every 17,006 and 17,007 byte-times in turn is never early.
 abbrev pub NeverEarly : Type 0
-NeverEarly = (cs : List Call) (payload instant gap : ℕ) (a : Answer) (before : List Event) → Happened (event (offer 0 payload) a) before (answered sampled cs) → payload ≤ 58 → lastTaken 0 before ≡ at instant → 17006 ≤ gap → clockOf before ≡ instant + gap → a ≡ taken
+NeverEarly = (cs : List Call) (payload instant gap : ℕ) (a : Answer) (before : List Event) → Happened (event (offer 0 payload) a) before (answered sampled cs) → rowAt (tableOf sampled before) 0 ≡ rowAt sampled 0 → payload ≤ 58 → lastTaken 0 before ≡ at instant → 17006 ≤ gap → clockOf before ≡ instant + gap → a ≡ taken
 
 -- C-12: best effort 320 holds the wire for 362 byte-times, and row 0 is offered at 1, 121, 241 and 361: each offer a period after the last, and no frame of the row has started.
 -- The third advance by 120 stops at 350, where best effort is reported.
@@ -70,11 +71,15 @@ four = offerBest 320 ∷ advance 1 ∷ offer 0 42 ∷ advance 120 ∷ offer 0 42
 abbrev pub almost : List Call
 almost = advance 120 ∷ advance 46 ∷ []
 
+abbrev pub fifth : State
+fifth = played (played (fresh often) four) almost
+
 -- C-13: a port record at a clock, with the last byte of a frame of row 0 on the wire that was taken at 0.
 abbrev pub lastByteAt : ℕ → State
 lastByteAt now =
     record {
       table = specimen;
+      bounds = 3730 ∷ 3130 ∷ 4844 ∷ [];
       clock = now;
       credita = pos 0;
       creditb = pos 0;
@@ -84,6 +89,22 @@ lastByteAt now =
       last = at 0 ∷ never ∷ never ∷ [];
       wire = Sending (record { source = 0; size = 100; taken = 0 }) 1;
     }
+
+-- C-15: a row joins the specimen at number 5: numbers 3 and 4 are empty.
+abbrev pub far : List Call
+far = join 5 rowLong ∷ []
+
+-- A frame of row 0, and then 400 byte-times: credit A is 0 again. One less, and it is not.
+abbrev pub almostQuiet : List Call
+almostQuiet = reportE ++ advance 12 ∷ advance 299 ∷ []
+
+-- While row 1's frame waits for row 0's and then for credit, a row of B with the largest frames joins, and its first one goes out.
+abbrev pub overtaken : List Call
+overtaken = offer 0 0 ∷ offer 1 0 ∷ advance 72 ∷ advance 12 ∷ join 3 (seldom B 1500) ∷ offer 3 1500 ∷ advance 1530 ∷ []
+
+-- Row 0 leaves, and a row joins at its number.
+abbrev pub anew : List Call
+anew = leave 0 ∷ join 0 rowA ∷ []
 
 pub record Facts : Type 0 where
   -- the table record says what the specimen says
@@ -143,11 +164,11 @@ pub record Facts : Type 0 where
   pub four-held : takenOf 0 (played (fresh often) four) ≡ 1 ∷ 121 ∷ 241 ∷ 361 ∷ []
   pub four-first : answer (played (fresh often) four) (advance 120) ≡ passed 73 (Reported (record { source = 0; size = 84; taken = 1 }))
   -- 119 byte-times after the fourth a fifth is early, though no more than three frames of the row are in the port; after 120 it is taken, and they are four again
-  pub fifth-clock : played (fresh often) (four ++ almost) .clock ≡ 480
-  pub fifth-held : takenOf 0 (played (fresh often) (four ++ almost)) ≡ 121 ∷ 241 ∷ 361 ∷ []
-  pub fifth-early : answer (played (fresh often) (four ++ almost)) (offer 0 42) ≡ denied 13 0
-  pub fifth-taken : answer (played (fresh often) (four ++ almost ++ advance 1 ∷ [])) (offer 0 42) ≡ taken
-  pub fifth-four : takenOf 0 (played (fresh often) (four ++ almost ++ advance 1 ∷ offer 0 42 ∷ [])) ≡ 121 ∷ 241 ∷ 361 ∷ 481 ∷ []
+  pub fifth-clock : fifth .clock ≡ 480
+  pub fifth-held : takenOf 0 fifth ≡ 121 ∷ 241 ∷ 361 ∷ []
+  pub fifth-early : answer fifth (offer 0 42) ≡ denied 13 0
+  pub fifth-taken : answer (after fifth (advance 1)) (offer 0 42) ≡ taken
+  pub fifth-four : takenOf 0 (after (after fifth (advance 1)) (offer 0 42)) ≡ 121 ∷ 241 ∷ 361 ∷ 481 ∷ []
   -- counts that sum to 64 in a class are accepted; a byte more of best effort makes them 65, refused with 20, place 0 for A, 1 for B; a bound above its deadline comes first
   pub room-bounds : bounds (crowded B 1380 7309) ≡ 7309 ∷ 6890 ∷ 6890 ∷ 6890 ∷ replicate 28 0
   pub room-64 : map (λ c. mostIn c (crowded c 1379 7309)) (A ∷ B ∷ []) ≡ 64 ∷ 64 ∷ []
@@ -156,7 +177,7 @@ pub record Facts : Type 0 where
   pub room-refuses : map (λ c. opening (crowded c 1380 7309)) (A ∷ B ∷ []) ≡ refused 20 0 ∷ refused 20 1 ∷ []
   pub room-late : map (λ c. opening (crowded c 1380 7308)) (A ∷ B ∷ []) ≡ refused 10 0 ∷ refused 10 0 ∷ []
   -- C-13: the bounds of (a) are 12 less than the residences
-  pub gap-residences : residences specimen ≡ 3742 ∷ 3142 ∷ 4856 ∷ replicate 29 0
+  pub gap-residences : map (residence specimen) (specimen .rows) ≡ 3742 ∷ 3142 ∷ 4856 ∷ []
   -- credit goes on falling in the gap: −66,000,000 at (e)'s first report, −75,000,000 when 12 more have passed
   pub gap-credit : port reportE .credita ≡ negsuc 65999999
   -- a frame is reported once: behind (e)'s first report its last 12 bytes hold the wire, and nothing is reported when they have passed
@@ -174,3 +195,34 @@ pub record Facts : Type 0 where
   -- the age in a broken record goes by the residence
   pub age-below : sound (lastByteAt 3741) ≡ true
   pub age-reached : sound (lastByteAt 3742) ≡ false
+  -- C-15: the port keeps its bounds; with row 3 those of both classes are larger
+  pub kept-bounds : port [] .bounds ≡ 3730 ∷ 3130 ∷ 4844 ∷ []
+  pub fourth-taken : answer (port []) (join 3 rowLong) ≡ taken
+  pub fourth-bounds : port (join 3 rowLong ∷ []) .bounds ≡ 6330 ∷ 5730 ∷ 5044 ∷ 5130 ∷ []
+  -- a row that joins at number 5 leaves 3 and 4 empty, with bound 0, and an offer to one is 11
+  pub join-taken : answer (port []) (join 5 rowLong) ≡ taken
+  pub join-bounds : port far .bounds ≡ 6330 ∷ 5730 ∷ 5044 ∷ 0 ∷ 0 ∷ 5130 ∷ []
+  pub join-empty : answer (port far) (offer 3 58) ≡ denied 11 0
+  pub join-offer : answer (port far) (offer 5 458) ≡ taken
+  -- the bounds are those of the sheet when it leaves again; and the row count is 3
+  pub join-left : port (far ++ leave 5 ∷ []) ≡ port []
+  -- a number in use, one above 31, an empty row, a bound above its deadline, a first row of a class
+  pub join-used : answer (port []) (join 2 rowLong) ≡ denied 22 0
+  pub join-above : answer (port []) (join 32 rowLong) ≡ denied 22 0
+  pub join-none : answer (port []) (join 4 noRow) ≡ denied 5 4
+  pub join-late : answer (fresh (specimenWith 3130)) (join 3 rowLong) ≡ denied 10 1
+  pub join-first : answer (fresh often) (join 1 rowB) ≡ denied 8 0
+  -- a frame may be older than the bound that its row had when it was taken: the bound of row 1 was 492 and is 1950 when a row of B has joined, and its frame is reported after 1698
+  pub raised-before : fresh small .bounds ≡ 492 ∷ 492 ∷ 492 ∷ []
+  pub raised-after : played (fresh small) overtaken .bounds ≡ 1950 ∷ 1950 ∷ 9922 ∷ 6520 ∷ []
+  pub raised-report : answer (played (fresh small) overtaken) (advance 5000) ≡ passed 84 (Reported (record { source = 1; size = 84; taken = 0 }))
+  pub raised-clock : after (played (fresh small) overtaken) (advance 5000) .clock ≡ 1698
+  -- a leave asks for an empty port with both credits 0; the last row of a class stays
+  pub leave-wire : answer (port reportE) (leave 0) ≡ denied 21 0
+  pub leave-credit : answer (port almostQuiet) (leave 0) ≡ denied 21 0
+  pub leave-taken : answer (after (port almostQuiet) (advance 1)) (leave 0) ≡ taken
+  pub leave-last : answer (port []) (leave 2) ≡ denied 8 0
+  pub leave-none : answer (port far) (leave 3) ≡ denied 11 0
+  -- 400 byte-times after its last frame row 0 is early; a row that has joined at its number has no last frame
+  pub again-early : answer (after (port almostQuiet) (advance 1)) (offer 0 58) ≡ denied 13 0
+  pub again-taken : answer (played (after (port almostQuiet) (advance 1)) anew) (offer 0 58) ≡ taken

@@ -1,5 +1,5 @@
 -- Document 01's specimen port: what its table says, the table record that its file is read into, and the file's bytes; and the same with two rows that name a sample rate.
--- Behind it the tables of C-12: a deadline longer than the period, and rows whose frames fill a class queue.
+-- Behind it the tables of C-12: a deadline longer than the period, and rows whose frames fill a class queue; and one of C-15, with small frames.
 use Prim.Native.Nat.{ℕ}
 use mathlib.Core.List.{List, [], _∷_, _++_}
 use lib.ListN.{replicate}
@@ -14,15 +14,22 @@ use Rattle.table.specs.Rows.{noRow, Contents}
 abbrev pub specimenHeader : Header
 specimenHeader = record { idlea = 250000; idleb = 200000; payload = 1500 }
 
+abbrev pub rowA : Row
+rowA = record { class = A; payload = 58; pace = Period 15625; deadline = 15625 }
+
 abbrev pub rowB : Row
 rowB = record { class = B; payload = 458; pace = Period 31250; deadline = 31250 }
+
+-- C-15: a row that joins, with longer frames than the specimen's other rows of class A.
+abbrev pub rowLong : Row
+rowLong = record { class = A; payload = 458; pace = Period 31250; deadline = 31250 }
 
 -- The specimen with a given deadline for row 1.
 abbrev pub specimenWith : ℕ → Contents
 specimenWith d =
     record {
       header = specimenHeader;
-      rows = record { class = A; payload = 58; pace = Period 15625; deadline = 15625 } ∷ record { class = A; payload = 258; pace = Period 15625; deadline = d } ∷ rowB ∷ [];
+      rows = rowA ∷ record { class = A; payload = 258; pace = Period 15625; deadline = d } ∷ rowB ∷ [];
     }
 
 abbrev pub specimen : Contents
@@ -94,6 +101,10 @@ oftenBytes =
     ∷ 0x06 ∷ 0x00 ∷ 0x00 ∷ 0x00 ∷ 0x78 ∷ 0x00 ∷ 0x00 ∷ 0x01 ∷ 0xE0
     ∷ []
 
+-- A row that seldom has a frame.
+abbrev pub seldom : Class → ℕ → Row
+seldom c payload = record { class = c; payload = payload; pace = Period 1000000; deadline = 1000000 }
+
 -- C-12: one class alone, whose first row has a frame every 120 byte-times and three neighbours with long frames; with a given best-effort payload, and a given deadline for row 0.
 abbrev pub slopesOf : Class → ℕ → Header
 slopesOf A best = record { idlea = 750000; idleb = 0; payload = best }
@@ -103,5 +114,9 @@ abbrev pub crowded : Class → (best deadline : ℕ) → Contents
 crowded c best d =
     record {
       header = slopesOf c best;
-      rows = record { class = c; payload = 42; pace = Period 120; deadline = d } ∷ replicate 3 (record { class = c; payload = 1300; pace = Period 1000000; deadline = 1000000 });
+      rows = record { class = c; payload = 42; pace = Period 120; deadline = d } ∷ replicate 3 (seldom c 1300);
     }
+
+-- C-15: two rows of A and one of B, all with the smallest frames.
+abbrev pub small : Contents
+small = record { header = record { idlea = 400000; idleb = 300000; payload = 0 }; rows = seldom A 0 ∷ seldom A 0 ∷ seldom B 0 ∷ [] }

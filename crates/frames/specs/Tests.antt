@@ -9,9 +9,9 @@ use Rattle.table.specs.declared.Row.{Row}
 use Rattle.table.specs.Limits.{leastSize}
 use Rattle.table.specs.Wire.{sizeOf}
 use Rattle.table.specs.Rows.{Contents, rowAt, inUse}
-use Rattle.planner.specs.declared.Lane.{Lane}
+use Rattle.figures.specs.declared.Lane.{Lane}
 use Rattle.planner.specs.Sums.{inClass, bestSize}
-use Rattle.planner.specs.Plan.{residenceBy}
+use Rattle.figures.specs.Lanes.{residenceBy}
 use Rattle.machine.specs.declared.Frame.{Frame}
 use Rattle.machine.specs.Limits.{bestMark}
 

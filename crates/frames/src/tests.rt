@@ -3,19 +3,20 @@ ghost use mathlib.Core.Path.{_≡_};
 ghost use Rattle.table.specs.Rows.{contents};
 ghost use Rattle.machine.specs.State.{waiting};
 ghost use Rattle.machine.specs.Record.{allOf, onSending};
-ghost use Rattle.frames.specs.Tests.{limitsBy, rowTest, frameTest, bestTest, sendingTest};
+ghost use Rattle.frames.specs.Tests.{limitsBy, rowTest, bestTest, sendingTest};
+use figures::Lane;
+use figures::residences::residence;
 use machine::BEST_MARK;
 use machine::BEST_PLACES;
 use machine::BestQueue;
 use machine::Frame;
 use machine::Wire;
-use planner::Lane;
-use planner::acceptance::residence;
 use table::Class;
 use table::ROWS;
 use table::Row;
 use table::Table;
 use table::classes::same_class;
+use table::rows::is_there;
 use table::wire::LEAST_SIZE;
 use table::wire::size;
 use table::wire::wire_size;
@@ -74,7 +75,7 @@ pub fn best_ok(q: BestQueue, most: u64, clock: u64) -> bool
     true
 }
 
-// The frame on the wire: a row's is judged by its row's class.
+// The frame on the wire: one of a number in use is judged by its row, with the row's class, any other as a best-effort frame.
 fn sending_ok(f: Frame, left: u32, t: Table, a: Lane, b: Lane, clock: u64) -> bool
     ensures { λ r. ⌜ r ≡ sendingTest (contents t) (limitsBy a b (t .rows)) clock f left ⌝ }
 {
@@ -86,12 +87,13 @@ fn sending_ok(f: Frame, left: u32, t: Table, a: Lane, b: Lane, clock: u64) -> bo
     }
     let k = f.source as usize;
     if k < t.count {
-        if ROWS <= k {
-            return false;
+        if k < ROWS {
+            let row = t.rows[k];
+            if is_there(row) {
+                let of = row.class;
+                return row_frame_ok(of, f, row, residence(row, a, b), clock);
+            }
         }
-        let row = t.rows[k];
-        let of = row.class;
-        return row_frame_ok(of, f, row, residence(row, a, b), clock);
     }
     best_frame_ok(f, wire_size(t.header.payload), clock)
 }

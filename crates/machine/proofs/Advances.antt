@@ -5,6 +5,7 @@ use mathlib.Core.Path.{_≡_, refl, sym, _∙_, ap, subst}
 use native.Mathlib.Nat.{add-suc, add-zero}
 use native.Mathlib.Omega.{arith}
 use Rattle.table.specs.declared.Class.the-variants.{A, B}
+use Rattle.table.specs.Limits.{leftAtReport}
 use Rattle.table.specs.Rows.{Contents, rowAt, InUse}
 use Rattle.planner.specs.Bound.{bound}
 use Rattle.machine.specs.declared.Frame.{Frame}
@@ -17,7 +18,8 @@ use Rattle.machine.specs.Time.{ready, sendOf, sendBest, startOn, start, 
 use Rattle.machine.specs.Limits.{lastClock}
 use Rattle.machine.proofs.Invariant.{Holds}
 use Rattle.machine.proofs.Start.{starts}
-use Rattle.machine.proofs.Byte.{byte-keeps, ends-in-time}
+use Rattle.machine.proofs.Byte.{byte-keeps, reported-frame, ends-in-time}
+use Rattle.machine.proofs.Soundness.{sending-facts}
 
 -- ---- what a start leaves alone
 pub record Same (s r : State) : Type 0 where
@@ -66,6 +68,14 @@ byte-ends s h f e l =
     let due = ends-in-time (start s) (h .u) (st .inv) f e (rw (same .table) l) in
     rw (byte-clock s) (rw (same .clock, same .table) at due)
 
+-- the frame that is reported was taken before: a byte of it has passed since
+byte-after : (s : State) → Holds s → (f : Frame) → endsIn s ≡ Reported f → f .taken < byteTime s .clock
+unfolding endsIn
+byte-after s h f e =
+    let st = starts s (h .u) (h .inv) in
+    let facts = sending-facts (start s) (h .u) (st .inv) f (suc leftAtReport) (reported-frame (start s .wire) f e) in
+    rw (byte-clock s) (omega (arith, facts .2, start-same s .clock))
+
 -- ---- an advance: no more byte-times pass than it asks for
 further-most : (n : ℕ) (p : Progress) (e : Ended) → p .passed ≤ n → further e p .passed ≤ suc n
 further-most n p (Reported f) h = omega arith
@@ -82,6 +92,7 @@ pub record Reached (s : State) (p : Progress) : Type 0 where
   pub last : p .state .last ≡ s .last
   pub clock : p .state .clock ≡ s .clock + p .passed
   pub in-time : (f : Frame) → p .ended ≡ Reported f → InUse (s .table) (f .source) → p .state .clock ≤ f .taken + bound (s .table) (rowAt (s .table) (f .source))
+  pub taken-before : (f : Frame) → p .ended ≡ Reported f → f .taken < p .state .clock
 
 go-on : (s : State) (n : ℕ) (p : Progress) (e : Ended) → s .clock + suc n ≤ lastClock → p .passed ≤ n → Reached s p → Reached s (further e p)
 go-on s n p (Reported f) l m r = r
@@ -92,12 +103,13 @@ go-on s n p Nothing l m r =
       last = byte-last (p .state) ∙ r .last;
       clock = byte-clock (p .state) ∙ ap suc (r .clock) ∙ sym (add-suc (s .clock) (p .passed));
       in-time = λ f e h. subst (λ (t : Contents). byteTime (p .state) .clock ≤ f .taken + bound t (rowAt t (f .source))) (r .table) (byte-ends (p .state) (r .holds) f e (rw (r .table) h));
+      taken-before = byte-after (p .state) (r .holds);
     }
 
 pub advances : (s : State) (n : ℕ) → Holds s → s .clock + n ≤ lastClock → Reached s (progress n s)
 unfolding progress
 advances s zero h l =
-    record { holds = h; table = refl; last = refl; clock = sym (add-zero (s .clock)); in-time = λ f e k. absurd (no-report e) }
+    record { holds = h; table = refl; last = refl; clock = sym (add-zero (s .clock)); in-time = λ f e k. absurd (no-report e); taken-before = λ f e. absurd (no-report e) }
   where
     no-report : {f : Frame} → Nothing ≡ Reported f → ⊥
     no-report e = let z : _≡_ {A = ℕ} 0 1 = cc in omega arith

@@ -122,10 +122,12 @@ module _ (s : State) (u : Class → ℕ) (st : Started s u) where
       let p = st .inv .always in
       record {
         accepted = p .accepted;
+        count = p .count;
+        bounds = p .bounds;
         clock = h;
         ground = each (λ c. GroundOf c passed (v c)) (moved A .ground) (moved B .ground);
         frames = record { rows = each (λ c. All (RowFrame c (s .table)) (queue c passed)) (p .frames .rows A) (p .frames .rows B); best = best-later (s .table) (s .clock) (s .best) (p .frames .best); few = p .frames .few; wire = wire-later (s .table) (s .clock) (s .wire) (p .frames .wire) };
-        instants = record { lasts = p .instants .lasts; none-after = later (s .clock) (s .last) (p .instants .none-after) };
+        instants = record { lasts = p .instants .lasts; in-use = p .instants .in-use; none-after = later (s .clock) (s .last) (p .instants .none-after) };
         chain = λ k g. class-chain (rowAt (s .table) k .class) k (p .chain k g);
       }
 

@@ -13,7 +13,7 @@ use Rattle.planner.specs.Sums.{bestSize}
 use Rattle.machine.specs.declared.Frame.{Frame}
 use Rattle.machine.specs.State.{State}
 use Rattle.machine.specs.Time.{unshaped, owner}
-use Rattle.machine.specs.Record.{allOf, onSending, namesRow, isBest, rowIn, sizeWithin, rowSize, sizeBy, takenBy, upTo, allTrue, tableSound, clockSound, creditSound, bestSound, namesSound, queuesSound, sizesSound, leftSound, framesTaken, rowsTaken, heldSound, apartSound, latestSound, ageSound, sound}
+use Rattle.machine.specs.Record.{allOf, onSending, namesRow, isBest, rowIn, sizeWithin, rowSize, sizeBy, takenBy, upTo, allTrue, tableSound, countSound, boundsSound, clockSound, creditSound, bestSound, namesSound, queuesSound, sizesSound, leftSound, framesTaken, rowsTaken, heldSound, apartSound, latestSound, ageSound, sound}
 use Rattle.machine.proofs.OneClass.{All}
 
 -- ---- facts from tests
@@ -71,6 +71,8 @@ four-true x y z w e =
 -- ---- the clauses of a sound record
 pub record Clauses (s : State) : Type 0 where
   pub table : tableSound s ≡ true
+  pub count : countSound s ≡ true
+  pub bounds : boundsSound s ≡ true
   pub clock : clockSound s ≡ true
   pub credit-a : creditSound A s ≡ true
   pub credit-b : creditSound B s ≡ true
@@ -89,23 +91,25 @@ pub record Clauses (s : State) : Type 0 where
 pub clauses : (s : State) → sound s ≡ true → Clauses s
 unfolding sound
 clauses s e =
-    let c = each-true (tableSound s ∷ clockSound s ∷ creditSound A s ∷ creditSound B s ∷ bestSound s ∷ namesSound s ∷ queuesSound s ∷ sizesSound s ∷ leftSound s ∷ framesTaken s ∷ rowsTaken s ∷ heldSound s ∷ apartSound s ∷ latestSound s ∷ ageSound s ∷ []) e in
+    let c = each-true (tableSound s ∷ countSound s ∷ boundsSound s ∷ clockSound s ∷ creditSound A s ∷ creditSound B s ∷ bestSound s ∷ namesSound s ∷ queuesSound s ∷ sizesSound s ∷ leftSound s ∷ framesTaken s ∷ rowsTaken s ∷ heldSound s ∷ apartSound s ∷ latestSound s ∷ ageSound s ∷ []) e in
     record {
       table = c .0;
-      clock = c .1 .0;
-      credit-a = c .1 .1 .0;
-      credit-b = c .1 .1 .1 .0;
-      best = c .1 .1 .1 .1 .0;
-      names = c .1 .1 .1 .1 .1 .0;
-      queues = c .1 .1 .1 .1 .1 .1 .0;
-      sizes = c .1 .1 .1 .1 .1 .1 .1 .0;
-      left = c .1 .1 .1 .1 .1 .1 .1 .1 .0;
-      frames = c .1 .1 .1 .1 .1 .1 .1 .1 .1 .0;
-      rows = c .1 .1 .1 .1 .1 .1 .1 .1 .1 .1 .0;
-      held = c .1 .1 .1 .1 .1 .1 .1 .1 .1 .1 .1 .0;
-      apart = c .1 .1 .1 .1 .1 .1 .1 .1 .1 .1 .1 .1 .0;
-      latest = c .1 .1 .1 .1 .1 .1 .1 .1 .1 .1 .1 .1 .1 .0;
-      age = c .1 .1 .1 .1 .1 .1 .1 .1 .1 .1 .1 .1 .1 .1 .0;
+      count = c .1 .0;
+      bounds = c .1 .1 .0;
+      clock = c .1 .1 .1 .0;
+      credit-a = c .1 .1 .1 .1 .0;
+      credit-b = c .1 .1 .1 .1 .1 .0;
+      best = c .1 .1 .1 .1 .1 .1 .0;
+      names = c .1 .1 .1 .1 .1 .1 .1 .0;
+      queues = c .1 .1 .1 .1 .1 .1 .1 .1 .0;
+      sizes = c .1 .1 .1 .1 .1 .1 .1 .1 .1 .0;
+      left = c .1 .1 .1 .1 .1 .1 .1 .1 .1 .1 .0;
+      frames = c .1 .1 .1 .1 .1 .1 .1 .1 .1 .1 .1 .0;
+      rows = c .1 .1 .1 .1 .1 .1 .1 .1 .1 .1 .1 .1 .0;
+      held = c .1 .1 .1 .1 .1 .1 .1 .1 .1 .1 .1 .1 .1 .0;
+      apart = c .1 .1 .1 .1 .1 .1 .1 .1 .1 .1 .1 .1 .1 .1 .0;
+      latest = c .1 .1 .1 .1 .1 .1 .1 .1 .1 .1 .1 .1 .1 .1 .1 .0;
+      age = c .1 .1 .1 .1 .1 .1 .1 .1 .1 .1 .1 .1 .1 .1 .1 .1 .0;
     }
 
 -- a frame that names no row is of no class

@@ -1,6 +1,6 @@
 -- What a sound record has, of any content. So an offer that is let pass finds a place in its queue.
 use Prim.Native.Nat.{ℕ, _+_, _-_, _*_, _≤_, _<_}
-use mathlib.Core.Bool.{Bool, true, false}
+use mathlib.Core.Bool.{Bool, true, false, cond}
 use mathlib.Core.List.{List, [], _∷_, _++_}
 use mathlib.Core.Path.{_≡_, refl, ap}
 use native.Mathlib.Nat.{le-trans}
@@ -11,11 +11,11 @@ use borrow.Author.Tests.{ltb-true, leb-true, eqb-true}
 use Rattle.table.specs.declared.Class.{Class}
 use Rattle.table.specs.declared.Class.the-variants.{A, B}
 use Rattle.table.specs.Wire.{periodOf}
-use Rattle.table.specs.Rows.{rowAt, InUse}
+use Rattle.table.specs.Rows.{rowAt, inUse, InUse}
 use Rattle.table.specs.Checks.{Outcome, accepted, refused}
 use Rattle.table.proofs.Laws as table
 use Rattle.planner.specs.Bound.{residence, mostOf}
-use Rattle.planner.specs.Opening.{opening, IsAccepted}
+use Rattle.planner.specs.Opening.{standing, IsAccepted}
 use Rattle.planner.proofs.Laws as law
 use Rattle.machine.specs.declared.Frame.{Frame}
 use Rattle.machine.specs.declared.Wire.{Wire}
@@ -23,7 +23,7 @@ use Rattle.machine.specs.declared.Wire.the-variants.{Free, Sending}
 use Rattle.machine.specs.Limits.{classPlaces}
 use Rattle.machine.specs.State.{Instant, never, at, State, queue}
 use Rattle.machine.specs.Time.{owner}
-use Rattle.machine.specs.Record.{isAccepted, allOf, onSending, namesRow, rowIn, takenIn, sending, takenOf, spaced, isAt, newestOf, endsAt, rowOnly, tableSound, heldSound, apartSound, latestSound, ageSound}
+use Rattle.machine.specs.Record.{isAccepted, allOf, onSending, namesRow, rowIn, takenIn, sending, takenOf, eachRow, spaced, isAt, newestOf, endsAt, rowOnly, tableSound, heldSound, apartSound, latestSound, ageSound}
 use Rattle.machine.specs.Calls.{early, rowFrame}
 use Rattle.machine.specs.Run.{count}
 use Rattle.machine.proofs.OneClass.{All}
@@ -48,7 +48,7 @@ at-true k (at j) e = ap at (eqb-true j k e)
 
 pub table-accepted : (s : State) → tableSound s ≡ true → IsAccepted (s .table)
 unfolding tableSound
-table-accepted s e = law.accepted-if (s .table) (accepted-true (opening (s .table)) e)
+table-accepted s e = law.standing-if (s .table) (accepted-true (standing (s .table)) e)
 
 module _ (s : State) (c : Clauses s) where
   pub is-accepted : IsAccepted (s .table)
@@ -75,17 +75,21 @@ module _ (s : State) (c : Clauses s) where
       by B = omega arith
 
   module _ (k : ℕ) (h : InUse (s .table) k) where
+    -- what holds of each number in use
+    at-use : (ok : ℕ → Bool) → eachRow ok s ≡ true → ok k ≡ true
+    at-use ok e = rw (table.used (s .table) k h) at (up-to-true (length (s .table .rows)) (λ j. cond (inUse (s .table) j) (ok j) true) e k (h .below))
+
     held-at : length (instants k) ≤ mostOf (s .table) (rowAt (s .table) k)
     unfolding heldSound
-    held-at = leb-true _ _ (up-to-true (length (s .table .rows)) (λ j. leb (length (takenOf j s)) (mostOf (s .table) (rowAt (s .table) j))) (c .held) k (h .below))
+    held-at = leb-true _ _ (at-use (λ j. leb (length (takenOf j s)) (mostOf (s .table) (rowAt (s .table) j))) (c .held))
 
     apart-at : spaced (periodOf (rowAt (s .table) k)) (instants k) ≡ true
     unfolding apartSound
-    apart-at = up-to-true (length (s .table .rows)) (λ j. spaced (periodOf (rowAt (s .table) j)) (takenOf j s)) (c .apart) k (h .below)
+    apart-at = at-use (λ j. spaced (periodOf (rowAt (s .table) j)) (takenOf j s)) (c .apart)
 
     latest-at : endsAt (instants k) (getD (s .last) k never) ≡ true
     unfolding latestSound
-    latest-at = up-to-true (length (s .table .rows)) (λ j. endsAt (takenOf j s) (getD (s .last) j never)) (c .latest) k (h .below)
+    latest-at = at-use (λ j. endsAt (takenOf j s) (getD (s .last) j never)) (c .latest)
 
     -- each is younger than the row's residence
     abbrev Aged : Frame → Type 0

@@ -1,4 +1,4 @@
--- The invariant of the paper, of a port that any list of calls has reached from the fresh port of an accepted table: what holds of any port, and what needs the
+-- The invariant, of a port that any list of calls has reached from the fresh port of an accepted table: what holds of any port, and what needs the
 -- planner's timing.
 use Prim.Native.Nat.{ℕ, zero, suc, _+_, _-_, _*_, _≤_}
 use mathlib.Core.Bool.{Bool, true, false}
@@ -14,14 +14,14 @@ use Rattle.table.specs.Wire.{sizeOf, periodOf}
 use Rattle.table.specs.Rows.{Contents, rowAt, InUse}
 use Rattle.table.proofs.Laws as table
 use Rattle.planner.specs.Sums.{largest, total, idle, send, bestSize}
-use Rattle.planner.specs.Bound.{blocking, residence}
+use Rattle.planner.specs.Bound.{blocking, residence, boundsOf}
 use Rattle.planner.specs.Opening.{IsAccepted}
 use Rattle.planner.proofs.Laws as law
 use Rattle.machine.specs.declared.Frame.{Frame}
 use Rattle.machine.specs.declared.Wire.{Wire}
 use Rattle.machine.specs.declared.Wire.the-variants.{Free, Sending}
 use Rattle.machine.specs.Limits.{lastClock, bestMark, bestPlaces}
-use Rattle.machine.specs.State.{Instant, never, at, State, credit, queue}
+use Rattle.machine.specs.State.{Instant, never, at, instantsFor, State, credit, queue}
 use Rattle.machine.specs.Time.{Owner, shaped, unshaped, owner, owns, onWire, wireAfter}
 use Rattle.machine.specs.Record.{takenIn}
 use Rattle.machine.proofs.Tokens.{tokens}
@@ -95,9 +95,10 @@ NoneAfter now [] = Unit {0}
 NoneAfter now (never ∷ is) = NoneAfter now is
 NoneAfter now (at k ∷ is) = (k ≤ now) × NoneAfter now is
 
--- one instant a row, none after the clock
+-- one instant a number, none at an empty one, none after the clock
 pub record Instants (s : State) : Type 0 where
   pub lasts : length (s .last) ≡ length (s .table .rows)
+  pub in-use : instantsFor (s .table .rows) (s .last) ≡ s .last
   pub none-after : NoneAfter (s .clock) (s .last)
 
 -- ---- the terms of a table's classes
@@ -121,6 +122,8 @@ Idled t ln u = Idle (terms A t) (terms B t) (blocking A t) (bestSize t) ln (u A)
 -- what holds of any port
 pub record Always (s : State) (u : Class → ℕ) : Type 0 where
   pub accepted : IsAccepted (s .table)
+  pub count : InUse (s .table) (length (s .table .rows) - 1)
+  pub bounds : s .bounds ≡ boundsOf (s .table)
   pub clock : s .clock ≤ lastClock
   pub ground : (c : Class) → GroundOf c s (u c)
   pub frames : Frames s

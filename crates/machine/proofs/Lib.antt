@@ -1,5 +1,6 @@
--- The proof of demand 3, in the paper's order. `Theorem` has the theorem.
+-- The proof of demand 3, in the order of docs/PROMISES.md, "The proof in one screen". `Theorem` has the theorem.
 mod Credit
+pub mod Instants
 mod Tokens
 mod OneClass
 pub mod Spaced
@@ -11,10 +12,12 @@ mod Byte
 mod Age
 mod Offers
 mod Fresh
+mod Joins
 mod Space
 mod Soundness
 mod Clauses
 pub mod FromSound
+pub mod Refused
 mod EachFrame
 mod Advances
 mod Conservation

@@ -2,7 +2,7 @@
 use Prim.Native.Nat.{ℕ, zero, suc, _+_, _-_, _*_, _≤_, _<_}
 use mathlib.Core.Bool.{Bool, true, false, cond, false≢true}
 use mathlib.Core.List.{List, [], _∷_, _++_, append-assoc, append-nil}
-use mathlib.Core.Path.{_≡_, refl, sym, _∙_, subst}
+use mathlib.Core.Path.{_≡_, refl, sym, _∙_, ap, subst}
 use native.Mathlib.Nat.{mul-le-mul-left, le-refl}
 use native.Mathlib.Omega.{arith}
 use lib.Dec.{eqb}
@@ -14,7 +14,7 @@ use Rattle.table.specs.declared.Class.the-variants.{A, B}
 use Rattle.table.specs.declared.Row.{Row}
 use Rattle.table.specs.Limits.{D}
 use Rattle.table.specs.Wire.{sizeOf, shareOf, periodOf}
-use Rattle.table.specs.Rows.{Contents, rowAt, sameClass, InUse}
+use Rattle.table.specs.Rows.{isThere, Contents, rowAt, sameClass, InUse}
 use Rattle.table.proofs.Laws as table
 use Rattle.planner.specs.Opening.{IsAccepted}
 use Rattle.planner.proofs.Laws as law
@@ -23,6 +23,7 @@ use Rattle.machine.specs.Limits.{bestPlaces}
 use Rattle.machine.specs.State.{Instant, never, at, State, credit, queue, instead}
 use Rattle.machine.specs.Record.{takenIn}
 use Rattle.machine.specs.Calls.{tooSoon, early, rowFrame, joined, takeRow, bestFrame, takeBest}
+use Rattle.machine.proofs.Instants.{for-set}
 use Rattle.machine.proofs.Tokens.{tokenOf, weigh, tokens, tokens-fall}
 use Rattle.machine.proofs.OneClass.{All, Ground, Kept, offer-grounds, frame-joins}
 use Rattle.machine.proofs.Chain.{Chain, chain-more, taken-append}
@@ -47,8 +48,8 @@ set-none-after now zero (at j ∷ is) p = (le-refl now, p .1)
 set-none-after now (suc k) (never ∷ is) p = set-none-after now k is p
 set-none-after now (suc k) (at j ∷ is) p = (p .0, set-none-after now k is (p .1))
 
-weigh-own : (c : Class) (r : Row) (n : ℕ) → r .class ≡ c → weigh c r n ≡ n
-weigh-own c r n e = rw (e, table.same-self c) refl
+weigh-own : (c : Class) (r : Row) (n : ℕ) → isThere r ≡ true → r .class ≡ c → weigh c r n ≡ n
+weigh-own c r n h e = rw (h, e, table.same-self c) refl
 
 weigh-other : (c d : Class) (r : Row) (n : ℕ) → r .class ≡ d → sameClass c d ≡ false → weigh c r n ≡ 0
 weigh-other c d r n e f = rw (e, f) refl
@@ -68,7 +69,7 @@ module _ (s : State) (u : Class → ℕ) (i : Inv s u) (k p : ℕ) (h : InUse (s
   joins : (c : Class) → rowAt (s .table) k .class ≡ c → Kept (terms c (s .table)) (s .clock) (tokens c (s .clock) (s .table .rows) last′) (queue c s ++ new ∷ []) (look c (s .table) (s .wire)) (u c)
   joins c e =
       frame-joins (terms c (s .table)) (s .clock) _ _ (queue c s) (look c (s .table) (s .wire)) new (u c) refl (table.frame-within (rowAt (s .table) k) p pays)
-      (rw (weigh-own c (rowAt (s .table) k) (D * sizeOf (rowAt (s .table) k)) e) at (falls c)) (i .timed .kept c)
+      (rw (weigh-own c (rowAt (s .table) k) (D * sizeOf (rowAt (s .table) k)) (h .there) e) at (falls c)) (i .timed .kept c)
 
   stays : (c d : Class) → rowAt (s .table) k .class ≡ d → sameClass c d ≡ false → Kept (terms c (s .table)) (s .clock) (tokens c (s .clock) (s .table .rows) last′) (queue c s) (look c (s .table) (s .wire)) (u c)
   stays c d e f =
@@ -140,6 +141,8 @@ module _ (s : State) (u : Class → ℕ) (i : Inv s u) (k p : ℕ) (h : InUse (s
         always =
             record {
               accepted = i .always .accepted;
+              count = i .always .count;
+              bounds = i .always .bounds;
               clock = i .always .clock;
               ground = each (λ d. GroundOf d (joined c new s) (u d)) (ground-after c A) (ground-after c B);
               frames =
@@ -149,7 +152,7 @@ module _ (s : State) (u : Class → ℕ) (i : Inv s u) (k p : ℕ) (h : InUse (s
                     few = i .always .frames .few;
                     wire = i .always .frames .wire;
                   };
-              instants = record { lasts = length-set (s .last) k (at (s .clock)) ∙ i .always .instants .lasts; none-after = set-none-after (s .clock) k (s .last) (i .always .instants .none-after) };
+              instants = record { lasts = length-set (s .last) k (at (s .clock)) ∙ i .always .instants .lasts; in-use = for-set (s .table .rows) (s .last) k (at (s .clock)) (h .there) (rw (i .always .instants .lasts) (h .below)) ∙ ap (λ (l : List Instant). set l k (at (s .clock))) (i .always .instants .in-use); none-after = set-none-after (s .clock) k (s .last) (i .always .instants .none-after) };
               chain = chain-after c e;
             };
         timed =
@@ -172,6 +175,8 @@ best-taken s u i p pays place =
       always =
           record {
             accepted = a .accepted;
+            count = a .count;
+            bounds = a .bounds;
             clock = a .clock;
             ground = each (λ c. GroundOf c (takeBest p s) (u c)) (a .ground A) (a .ground B);
             frames =
@@ -181,7 +186,7 @@ best-taken s u i p pays place =
                   few = rw (length-append (s .best) (bestFrame s p ∷ [])) (omega arith);
                   wire = a .frames .wire;
                 };
-            instants = record { lasts = a .instants .lasts; none-after = a .instants .none-after };
+            instants = record { lasts = a .instants .lasts; in-use = a .instants .in-use; none-after = a .instants .none-after };
             chain = λ k g. same-chain (rowAt (s .table) k .class) k (a .chain k g);
           };
       timed =

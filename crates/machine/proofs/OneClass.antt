@@ -1,4 +1,4 @@
--- One class and its look at the wire, over the class's terms: the paper's line 1, which holds of any port, and lines 2, 7, 8 and 9, which need the planner's timing.
+-- One class and its look at the wire, over the class's terms: line 1 of the proof in docs/PROMISES.md, which holds of any port, and lines 2, 7, 8 and 9, which need the planner's timing.
 -- One proof serves A and B.
 use Prim.Native.Nat.{ℕ, zero, suc, _+_, _-_, _*_, _≤_}
 use mathlib.Core.Bool.{Bool, true, false}

@@ -4,20 +4,24 @@ use mathlib.Core.Bool.{Bool, true, false, _&&_}
 use mathlib.Core.List.{List, [], _∷_, _++_, map, append-nil}
 use mathlib.Core.Path.{_≡_, refl, sym, _∙_, ap}
 use native.Mathlib.Omega.{arith}
-use lib.ListN.{length, getD, take, drop, replicate, length-map, length-take, length-append, length-replicate, List·getD-map, List·getD-append}
-use lib.Seq.{drop-cons, getD-take}
+use lib.ListN.{length, getD, take, drop, replicate, length-map, length-take, length-append, length-replicate, List·getD-map}
+use lib.Seq.{drop-cons, getD-take, take-at}
 use mir.Val.{Val}
 use denote.Laws.{Is}
-use denote.Array.{Array}
 use denote.Struct.Declared as Declared
-use Rattle.table.specs.Limits.{mostRows}
+use Rattle.table.specs.declared.Row.{Row}
+use Rattle.table.specs.declared.Table.{Table}
+use Rattle.table.specs.Rows.{noRow, isThere, rowsOf, contents}
+use Rattle.table.proofs.Laws as table
+use Rattle.planner.specs.Bound.{boundsOf}
 use Rattle.machine.specs.declared.Frame.{Frame}
 use Rattle.machine.specs.declared.Last.{Last}
 use Rattle.machine.specs.declared.Queue.{Queue}
 use Rattle.machine.specs.declared.BestQueue.{BestQueue}
 use Rattle.machine.specs.declared.Port.{Port}
 use Rattle.machine.specs.Limits.{classPlaces, bestPlaces}
-use Rattle.machine.specs.State.{never, noFrame, waiting, instantOf, instantsOf, Places}
+use Rattle.machine.specs.State.{never, noFrame, waiting, instantOf, instantsOf, keptOf, Places}
+use Rattle.machine.proofs.Instants.{for-length, for-at}
 -- the record itself, and what an unused place may hold
 pub use Rattle.machine.specs.State.{zeroFrame, zeroLast, Places}
 -- a byte-time is one on the clock
@@ -25,18 +29,14 @@ pub use Rattle.machine.proofs.Advances.{byte-clock}
 use Rattle.machine.specs.Record.{allOf}
 use Rattle.machine.proofs.Queue as queue
 use Rattle.machine.proofs.BestQueue as best
-use Rattle.machine.proofs.Last as last
 use Rattle.machine.proofs.Port as port
 
--- what owning a queue, a list of instants or a port record tells of its places
+-- what owning a queue or a port record tells of its places
 pub queue-places : (q : Queue) (vs : List Val) → Is (Declared.row queue.the-type) q vs → length (q .frames) ≡ classPlaces
 queue-places q vs p = sym (length-map (q .frames) _) ∙ p .1 .1 .1 .0 .1 .0 .1
 
 pub best-places : (q : BestQueue) (vs : List Val) → Is (Declared.row best.the-type) q vs → length (q .frames) ≡ bestPlaces
 best-places q vs p = sym (length-map (q .frames) _) ∙ p .1 .1 .1 .0 .1 .0 .1
-
-pub last-places : (ls : List Last) (vs : List Val) → Is (Array (Declared.row last.the-type) mostRows) ls vs → length ls ≡ mostRows
-last-places ls vs p = p .1 .0 .1
 
 pub port-places : (p : Port) (vs : List Val) → Is (Declared.row port.the-type) p vs → Places p
 port-places p vs e =
@@ -46,6 +46,7 @@ port-places p vs e =
       b = sym (length-map (p .b .frames) _) ∙ e .1 .1 .1 .1 .1 .1 .1 .0 .1 .1 .1 .0 .1 .0 .1;
       best = sym (length-map (p .best .frames) _) ∙ e .1 .1 .1 .1 .1 .1 .1 .1 .0 .1 .1 .1 .0 .1 .0 .1;
       last = sym (length-map (p .last) _) ∙ e .1 .1 .1 .1 .1 .1 .1 .1 .1 .0 .1 .0 .1;
+      bounds = sym (length-map (p .bounds) _) ∙ e .1 .1 .1 .1 .1 .1 .1 .1 .1 .1 .0 .1 .0 .1;
     }
 
 -- ---- the frames that wait
@@ -75,13 +76,20 @@ too-many ok n xs e h =
     let m : n - length xs ≡ suc (n - length xs - 1) = omega arith in
     sym (all-append ok (take n xs) (replicate (n - length xs) noFrame) (rw (m, e) refl))
 
--- the instants of a table's rows
-pub instants-few : (n : ℕ) (last : List Last) → n ≤ length last → instantsOf n last ≡ map instantOf (take n last)
-instants-few n last h = let e : n - length last ≡ 0 = omega arith in rw (e, append-nil) refl
+-- the instants of a table's numbers, and the bounds that are kept of them
+pub instants-length : (rs : List Row) (last : List Last) → length (instantsOf rs last) ≡ length rs
+instants-length rs last = for-length rs (map instantOf last)
 
-pub instants-length : (n : ℕ) (last : List Last) → length (instantsOf n last) ≡ n
-instants-length n last = rw (length-append, length-map, length-take, length-replicate) (omega arith)
+pub instant-at : (rs : List Row) (last : List Last) (k : ℕ) → isThere (getD rs k noRow) ≡ true → getD (instantsOf rs last) k never ≡ instantOf (getD last k zeroLast)
+instant-at rs last k e = for-at rs (map instantOf last) k e ∙ List·getD-map instantOf last k zeroLast
 
-pub instant-at : (last : List Last) (n k : ℕ) → k < n → k < length last → getD (instantsOf n last) k never ≡ instantOf (getD last k zeroLast)
-instant-at last n k h g =
-    List·getD-append (map instantOf (take n last)) (replicate (n - length last) never) never k (rw (length-map, length-take) (omega arith)) ∙ List·getD-map instantOf (take n last) k zeroLast ∙ ap instantOf (getD-take n last k zeroLast h)
+pub kept-few : (n : ℕ) (bs : List ℕ) → n ≤ length bs → keptOf n bs ≡ take n bs
+unfolding keptOf
+kept-few n bs h = let e : n - length bs ≡ 0 = omega arith in rw (e, append-nil) refl
+
+-- bounds that stand in the first of some places
+pub worked-out : (t : Table) (out rest : List ℕ) → out ≡ boundsOf (contents t) ++ rest → (t .count ≤ length out) × (take (t .count) out ≡ boundsOf (contents t))
+unfolding boundsOf
+worked-out t out rest e =
+    let long : length (boundsOf (contents t)) ≡ t .count = length-map (rowsOf t) _ ∙ table.rows-length t in
+    (rw (e, length-append) (omega (arith, long)), rw e (take-at (boundsOf (contents t)) rest (t .count) long))

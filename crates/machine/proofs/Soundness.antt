@@ -1,6 +1,6 @@
 -- No clause of "broken" holds of a port that keeps the invariant: no call meets 18.
 use Prim.Native.Nat.{ℕ, zero, suc, _+_, _-_, _≤_, _<_}
-use mathlib.Core.Bool.{Bool, true, false, false≢true, _&&_, _||_}
+use mathlib.Core.Bool.{Bool, true, false, cond, false≢true, _&&_, _||_}
 use mathlib.Core.List.{List, [], _∷_, _++_, append-nil}
 use mathlib.Core.Path.{_≡_, refl, sym, _∙_, ap}
 use native.Mathlib.Nat.{lt-suc-self, lt-trans}
@@ -12,17 +12,17 @@ use borrow.Author.Tests.{lt-ltb, le-leb, eq-eqb, eqb-true}
 use Rattle.table.specs.declared.Class.{Class}
 use Rattle.table.specs.declared.Class.the-variants.{A, B}
 use Rattle.table.specs.Wire.{periodOf}
-use Rattle.table.specs.Rows.{Contents, rowAt, sameClass, InUse}
+use Rattle.table.specs.Rows.{Contents, rowAt, sameClass, inUse, InUse, countRight}
 use Rattle.table.proofs.Laws as table
 use Rattle.planner.specs.Sums.{bestSize}
-use Rattle.planner.specs.Bound.{residence, mostOf}
+use Rattle.planner.specs.Bound.{residence, mostOf, boundsOf}
 use Rattle.planner.proofs.Laws as law
 use Rattle.machine.specs.declared.Frame.{Frame}
 use Rattle.machine.specs.declared.Wire.{Wire}
 use Rattle.machine.specs.declared.Wire.the-variants.{Free, Sending}
 use Rattle.machine.specs.State.{Instant, never, at, State, credit, queue}
 use Rattle.machine.specs.Time.{Owner, shaped, unshaped, owner, owns}
-use Rattle.machine.specs.Record.{allOf, onSending, between, namesRow, isBest, rowIn, sizeWithin, rowSize, sizeBy, noneAfter, takenBy, takenIn, sending, takenOf, upTo, eachRow, spaced, endsAt, rowOnly, tableSound, clockSound, creditSound, bestSound, namesSound, queuesSound, sizesSound, leftSound, framesTaken, rowsTaken, heldSound, apartSound, latestSound, ageSound, sound}
+use Rattle.machine.specs.Record.{allOf, onSending, between, namesRow, isBest, rowIn, sizeWithin, rowSize, sizeBy, noneAfter, takenBy, takenIn, sending, takenOf, upTo, eachRow, spaced, endsAt, rowOnly, tableSound, countSound, sameNumbers, boundsSound, clockSound, creditSound, bestSound, namesSound, queuesSound, sizesSound, leftSound, framesTaken, rowsTaken, heldSound, apartSound, latestSound, ageSound, sound}
 use Rattle.machine.proofs.Credit.{Headroom}
 use Rattle.machine.proofs.OneClass.{All}
 use Rattle.machine.proofs.Chain.{chain-spaced, chain-ends, taken-append, taken-none}
@@ -69,6 +69,10 @@ up-to : (n : ℕ) (ok : ℕ → Bool) → ((k : ℕ) → k < n → ok k ≡ true
 up-to zero ok each = refl
 up-to (suc n) ok each = rw (up-to n ok (λ k h. each k (lt-trans h (lt-suc-self n)))) (each n (lt-suc-self n))
 
+same-numbers : (xs : List ℕ) → sameNumbers xs xs ≡ true
+same-numbers [] = refl
+same-numbers (x ∷ xs) = rw (eq-eqb x x refl) (same-numbers xs)
+
 none-after : (now : ℕ) (is : List Instant) → NoneAfter now is → noneAfter now is ≡ true
 none-after now [] p = refl
 none-after now (never ∷ is) p = none-after now is p
@@ -101,7 +105,15 @@ none-other c d t k q p e f = taken-none k q (names q p)
 module _ (s : State) (u : Class → ℕ) (i : Inv s u) where
   table-sound : tableSound s ≡ true
   unfolding tableSound
-  table-sound = rw (law.accepted-only-if (s .table) (i .always .accepted)) refl
+  table-sound = rw (law.standing-only-if (s .table) (i .always .accepted)) refl
+
+  count-sound : countSound s ≡ true
+  unfolding countSound countRight
+  count-sound = table.used (s .table) _ (i .always .count)
+
+  bounds-sound : boundsSound s ≡ true
+  unfolding boundsSound
+  bounds-sound = rw (i .always .bounds) (same-numbers (boundsOf (s .table)))
 
   clock-sound : clockSound s ≡ true
   unfolding clockSound
@@ -151,7 +163,7 @@ module _ (s : State) (u : Class → ℕ) (i : Inv s u) where
   sends f l e (shaped c) own r = let m = row-sends s u i f l e c own in (m .some, m .whole, m .past)
   sends f l e unshaped own r = (r .1, r .2, r .0 .past)
 
-  sending-facts : (f : Frame) (l : ℕ) → s .wire ≡ Sending f l → (1 ≤ l) × (l ≤ f .size) × (f .taken ≤ s .clock)
+  pub sending-facts : (f : Frame) (l : ℕ) → s .wire ≡ Sending f l → (1 ≤ l) × (l ≤ f .size) × (f .taken ≤ s .clock)
   sending-facts f l e = sends f l e (owner (s .table) f) refl (rw e at (i .always .frames .wire))
 
   wire-left : (w : Wire) → s .wire ≡ w → onSending (λ f left. leb 1 left && leb left (f .size)) w ≡ true
@@ -198,7 +210,11 @@ module _ (s : State) (u : Class → ℕ) (i : Inv s u) where
 
   -- what holds of each row's frames
   each-row : (ok : ℕ → List ℕ → Bool) → ((k : ℕ) → InUse (s .table) k → ok k (rowInstants k s) ≡ true) → eachRow (λ k. ok k (takenOf k s)) s ≡ true
-  each-row ok each = up-to (length (s .table .rows)) (λ k. ok k (takenOf k s)) (λ k h. rw (taken-is k (record { below = h })) (each k (record { below = h })))
+  each-row ok each = up-to (length (s .table .rows)) (λ k. cond (inUse (s .table) k) (ok k (takenOf k s)) true) (λ k h. go k (inUse (s .table) k) refl)
+    where
+      go : (k : ℕ) (b : Bool) → inUse (s .table) k ≡ b → cond b (ok k (takenOf k s)) true ≡ true
+      go k true e = let u = table.is-used (s .table) k e in rw (taken-is k u) (each k u)
+      go k false e = refl
 
   held-sound : heldSound s ≡ true
   unfolding heldSound
@@ -230,4 +246,4 @@ module _ (s : State) (u : Class → ℕ) (i : Inv s u) where
 
   pub is-sound : sound s ≡ true
   unfolding sound
-  is-sound = rw (table-sound, clock-sound, credit-sound A, credit-sound B, best-sound, names-sound, queues-sound, sizes-sound, left-sound, frames-taken, rows-taken, held-sound, apart-sound, latest-sound, age-sound) refl
+  is-sound = rw (table-sound, count-sound, bounds-sound, clock-sound, credit-sound A, credit-sound B, best-sound, names-sound, queues-sound, sizes-sound, left-sound, frames-taken, rows-taken, held-sound, apart-sound, latest-sound, age-sound) refl

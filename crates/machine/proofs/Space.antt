@@ -1,5 +1,5 @@
--- Space: the frames of a class queue are those of the class's rows, and no row has more in the port than it may have. Opening has kept the sum of these within the
--- queue's places.
+-- Space: the frames of a class queue are those of the class's rows, and no row has more in the port than it may have. Rule 20 keeps the sum of these within the
+-- queue's places, at opening and at each join.
 use Prim.Native.Nat.{ℕ, zero, suc, _+_, _≤_, _<_}
 use mathlib.Core.Bool.{Bool, true, false, cond, false≢true}
 use mathlib.Core.List.{List, [], _∷_}
@@ -12,7 +12,8 @@ use borrow.Author.Tests.{ne-eqb, eqb-true, eqb-false}
 use Rattle.table.specs.declared.Class.{Class}
 use Rattle.table.specs.declared.Row.{Row}
 use Rattle.table.specs.Rows.{noRow, Contents, rowAt, InUse}
-use Rattle.planner.specs.Sums.{inClass, part, sumOver}
+use Rattle.table.proofs.Laws as table
+use Rattle.planner.specs.Sums.{inClass, counts, part, sumOver}
 use Rattle.planner.specs.Bound.{mostOf}
 use Rattle.planner.specs.Opening.{IsAccepted}
 use Rattle.planner.proofs.Laws as law
@@ -106,18 +107,19 @@ below : (c : Class) (t : Contents) (q : List Frame) → All (Member c t) q → A
 below c t [] p = tt
 below c t (f ∷ q) p = (p .0 .names .below, below c t q (p .1))
 
--- a row of another class has none in the queue
-none-of : (c : Class) (t : Contents) (k : ℕ) (q : List Frame) → All (Member c t) q → inClass c (rowAt t k) ≡ false → inQueue k q ≡ 0
+-- a number that does not count in the class has none in the queue
+none-of : (c : Class) (t : Contents) (k : ℕ) (q : List Frame) → All (Member c t) q → counts c (rowAt t k) ≡ false → inQueue k q ≡ 0
 none-of c t k [] p e = refl
 none-of c t k (f ∷ q) p e =
-    let miss : count (eqb (f .source) k) ≡ 0 = ap count (ne-eqb (f .source) k (λ z. false≢true (sym e ∙ rw z at (p .0 .class)))) in
+    let own : counts c (rowAt t (f .source)) ≡ true = rw (p .0 .class, p .0 .names .there) refl in
+    let miss : count (eqb (f .source) k) ≡ 0 = ap count (ne-eqb (f .source) k (λ z. false≢true (sym e ∙ rw z at own))) in
     omega (arith, one-more k f q, none-of c t k q (p .1) e)
 
 -- a queue whose rows keep to their counts
 pub in-places : (c : Class) (t : Contents) → IsAccepted t → (q : List Frame) → All (Member c t) q → ((k : ℕ) → InUse t k → inQueue k q ≤ mostOf t (rowAt t k)) → length q ≤ classPlaces
 in-places c t ok q members few =
-    omega (arith, tally-all (length (t .rows)) q (below c t q members), tally-most (length (t .rows)) q (λ k. part c (mostOf t) (rowAt t k)) (λ k h. keeps k h (inClass c (rowAt t k)) refl), sum-numbers c (mostOf t) (t .rows), law.most-sum c t, law.most-within t ok c)
+    omega (arith, tally-all (length (t .rows)) q (below c t q members), tally-most (length (t .rows)) q (λ k. part c (mostOf t) (rowAt t k)) (λ k h. keeps k (counts c (rowAt t k)) refl), sum-numbers c (mostOf t) (t .rows), law.most-sum c t, law.most-within t ok c)
   where
-    keeps : (k : ℕ) → k < length (t .rows) → (b : Bool) → inClass c (rowAt t k) ≡ b → inQueue k q ≤ cond b (mostOf t (rowAt t k)) 0
-    keeps k h true e = few k (record { below = h })
-    keeps k h false e = omega (arith, none-of c t k q members e)
+    keeps : (k : ℕ) → (b : Bool) → counts c (rowAt t k) ≡ b → inQueue k q ≤ cond b (mostOf t (rowAt t k)) 0
+    keeps k true e = few k (table.there-used t k (table.and-true (inClass c (rowAt t k)) _ e .1))
+    keeps k false e = omega (arith, none-of c t k q members e)

@@ -1,5 +1,5 @@
 -- A frame starts, or none: step 1 keeps the invariant, and leaves a free wire only where no class has credit above 0.
-use Prim.Native.Nat.{ℕ, _+_, _*_, _≤_}
+use Prim.Native.Nat.{ℕ, _*_, _≤_}
 use mathlib.Core.Bool.{Bool, true, false, cond}
 use mathlib.Core.List.{List, [], _∷_, _++_}
 use mathlib.Core.Path.{_≡_, refl, sym, subst, subst⁻¹}
@@ -147,10 +147,12 @@ module _ (s : State) (u : Class → ℕ) (i : Inv s u) (no-frame : s .wire ≡ F
                 always =
                     record {
                       accepted = ok;
+                      count = i .always .count;
+                      bounds = i .always .bounds;
                       clock = i .always .clock;
                       ground = each (λ d. GroundOf d (sent c f q e r) (u d)) (rw own (ground-after c A f q e r)) (rw own (ground-after c B f q e r));
                       frames = sent-frames;
-                      instants = record { lasts = i .always .instants .lasts; none-after = i .always .instants .none-after };
+                      instants = record { lasts = i .always .instants .lasts; in-use = i .always .instants .in-use; none-after = i .always .instants .none-after };
                       chain = sent-chain;
                     };
                 timed =
@@ -194,10 +196,12 @@ module _ (s : State) (u : Class → ℕ) (i : Inv s u) (no-frame : s .wire ≡ F
                 always =
                     record {
                       accepted = ok;
+                      count = i .always .count;
+                      bounds = i .always .bounds;
                       clock = i .always .clock;
                       ground = each (λ d. GroundOf d best-sent (u d)) (rw unowned (ground A)) (rw unowned (ground B));
                       frames = best-frames;
-                      instants = record { lasts = i .always .instants .lasts; none-after = i .always .instants .none-after };
+                      instants = record { lasts = i .always .instants .lasts; in-use = i .always .instants .in-use; none-after = i .always .instants .none-after };
                       chain = best-chain;
                     };
                 timed =

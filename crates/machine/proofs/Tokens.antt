@@ -11,7 +11,7 @@ use Rattle.table.specs.declared.Row.{Row}
 use Rattle.table.specs.Limits.{D}
 use Rattle.table.specs.Wire.{sizeOf, shareOf}
 use Rattle.table.specs.Rows.{noRow}
-use Rattle.planner.specs.Sums.{inClass, sumOver}
+use Rattle.planner.specs.Sums.{counts, sumOver}
 use Rattle.planner.proofs.Laws as law
 use Rattle.machine.specs.State.{Instant, never, at}
 
@@ -20,7 +20,7 @@ tokenOf r never now = D * sizeOf r
 tokenOf r (at k) now = min (D * sizeOf r) (shareOf r * (now - k))
 
 abbrev pub weigh : Class → Row → ℕ → ℕ
-weigh c r n = cond (inClass c r) n 0
+weigh c r n = cond (counts c r) n 0
 
 abbrev pub tokens : Class → ℕ → List Row → List Instant → ℕ
 tokens c now [] ls = 0
@@ -38,28 +38,28 @@ token-rises r (at k) now =
     omega (arith, mul-suc (shareOf r) (now - k))
 
 weigh-most : (c : Class) (r : Row) {m n : ℕ} → m ≤ n → weigh c r m ≤ weigh c r n
-weigh-most c r {m} {n} h = go (inClass c r)
+weigh-most c r {m} {n} h = go (counts c r)
   where
     go : (b : Bool) → cond b m 0 ≤ cond b n 0
     go true = h
     go false = omega arith
 
 weigh-none : (c : Class) (r : Row) → weigh c r 0 ≡ 0
-weigh-none c r = go (inClass c r)
+weigh-none c r = go (counts c r)
   where
     go : (b : Bool) → cond {A = ℕ} b 0 0 ≡ 0
     go true = refl
     go false = refl
 
 weigh-sum : (c : Class) (r : Row) (m n : ℕ) → weigh c r (m + n) ≡ weigh c r m + weigh c r n
-weigh-sum c r m n = go (inClass c r)
+weigh-sum c r m n = go (counts c r)
   where
     go : (b : Bool) → cond b (m + n) 0 ≡ cond b m 0 + cond b n 0
     go true = refl
     go false = omega arith
 
-weigh-times : (c : Class) (r : Row) (n : ℕ) → weigh c r (D * n) ≡ D * weigh c r n
-weigh-times c r n = go (inClass c r)
+pub weigh-times : (c : Class) (r : Row) (n : ℕ) → weigh c r (D * n) ≡ D * weigh c r n
+weigh-times c r n = go (counts c r)
   where
     go : (b : Bool) → cond b (D * n) 0 ≡ D * cond b n 0
     go true = refl

@@ -6,7 +6,7 @@ use mathlib.Core.Path.{_≡_, refl}
 use native.Mathlib.Omega.{arith}
 use lib.Dec.{leb}
 use borrow.Author.Tests.{leb-true, eqb-true}
-use Rattle.table.specs.Limits.{mostSize, leastSize}
+use Rattle.table.specs.Limits.{mostRows, mostSize, leastSize}
 use Rattle.table.specs.Wire.{sizeOf}
 use Rattle.table.specs.Rows.{rowAt}
 use Rattle.table.proofs.Laws as table
@@ -20,13 +20,13 @@ use Rattle.machine.specs.Limits.{lastClock, bestMark}
 use Rattle.machine.specs.State.{State}
 use Rattle.machine.specs.Time.{owner}
 use Rattle.machine.specs.Record.{onSending, namesRow, isBest, sizeWithin, rowSize, sizeBy, takenBy, clockSound, sound}
-use Rattle.machine.specs.Calls.{Call, offer, offerBest, advance, Answer, taken, passed, denied, offerCheck, bestCheck, advanceCheck, answer}
+use Rattle.machine.specs.Calls.{Call, offer, offerBest, advance, join, leave, Answer, taken, passed, denied, offerCheck, bestCheck, advanceCheck, joinCheck, leaveCheck, answer}
 use Rattle.machine.proofs.Invariant.{named-owner}
 use Rattle.machine.proofs.Clauses.{Passes, each-passes, Clauses, clauses, unnamed, names-parts, queue-parts, sizes-parts, taken-parts}
 use Rattle.machine.proofs.FromSound.{is-accepted}
 use Rattle.machine.proofs.EachFrame.{OnWire, OfEnded, EachFrame, progress-each}
 use Rattle.machine.proofs.Advances.{passed-most}
-use Rattle.machine.proofs.Trace.{Step, row-taken, best-taken, advanced, refusal, any-step}
+use Rattle.machine.proofs.Trace.{Step, row-taken, best-taken, advanced, row-joins, row-leaves, refusal, any-step}
 
 -- a frame of a sound record: a row's number or the best-effort mark, a wire size, an instant of the clock
 pub record FrameWithin (f : Frame) : Type 0 where
@@ -37,10 +37,10 @@ pub record FrameWithin (f : Frame) : Type 0 where
 -- a refusal's number and place
 pub record DenialWithin (number place : ℕ) : Type 0 where
   pub some : 1 ≤ number
-  pub most : number ≤ 18
-  pub none : place ≡ 0
+  pub most : number ≤ 22
+  pub within : place ≤ mostRows
 
--- an offer is taken or refused; an advance gives a count and a frame or none, or is refused
+-- an offer, a join or a leave is taken or refused; an advance gives a count and a frame or none, or is refused
 abbrev pub OfferWithin : Answer → Type 0
 OfferWithin taken = Unit {0}
 OfferWithin (passed n e) = ⊥
@@ -55,6 +55,8 @@ abbrev pub AnswerWithin : Call → Answer → Type 0
 AnswerWithin (offer row payload) a = OfferWithin a
 AnswerWithin (offerBest payload) a = OfferWithin a
 AnswerWithin (advance n) a = AdvanceWithin a
+AnswerWithin (join k r) a = OfferWithin a
+AnswerWithin (leave k) a = OfferWithin a
 
 -- ---- the frames of a sound record
 module _ (s : State) (c : Clauses s) where
@@ -116,22 +118,28 @@ denial-within : (c : Call) {n p : ℕ} → DenialWithin n p → AnswerWithin c (
 denial-within (offer k x) d = d
 denial-within (offerBest x) d = d
 denial-within (advance m) d = d
+denial-within (join k r) d = d
+denial-within (leave k) d = d
 
 broken : (s : State) → sound s ≡ false → (c : Call) → answer s c ≡ denied 18 0
-unfolding offerCheck bestCheck advanceCheck
+unfolding offerCheck bestCheck advanceCheck joinCheck leaveCheck
 broken s e (offer k x) = rw e refl
 broken s e (offerBest x) = rw e refl
 broken s e (advance n) = rw e refl
+broken s e (join k r) = rw e refl
+broken s e (leave k) = rw e refl
 
 step-within : {s r : State} {c : Call} {a : Answer} → Clauses s → Step s c a r → AnswerWithin c a
 step-within w (row-taken k x h g e) = tt
 step-within w (best-taken x h g) = tt
 step-within {s} w (advanced n room) = (omega (arith, passed-most n s), progress-each FrameWithin s (frames-within s w) n .1)
-step-within w (refusal c n p o q) = denial-within c (record { some = o .some; most = omega (arith, o .below); none = o .none })
+step-within w (row-joins k r h g e a) = tt
+step-within w (row-leaves k h q a) = tt
+step-within w (refusal c n p o q) = denial-within c (record { some = o .some; most = o .most; within = o .within })
 
 pub answer-within : (s : State) (c : Call) → AnswerWithin c (answer s c)
 answer-within s c = go (sound s) refl
   where
     go : (b : Bool) → sound s ≡ b → AnswerWithin c (answer s c)
     go true e = step-within (clauses s e) (any-step s e c)
-    go false e = rw (broken s e c) (denial-within c (record { some = omega arith; most = omega arith; none = refl }))
+    go false e = rw (broken s e c) (denial-within c (record { some = omega arith; most = omega arith; within = omega arith }))

@@ -1,4 +1,4 @@
--- When a record is broken: the clauses of document 01, as C-12 and C-13 have them, each with a name, stated as what a sound record has.
+-- When a record is broken: the clauses of document 01, as C-12, C-13 and C-15 have them, each with a name, stated as what a sound record has.
 use Prim.Native.Nat.{ℕ, zero, suc, _+_, _-_, _*_, max}
 use mathlib.Core.Bool.{Bool, true, false, cond, _&&_, _||_}
 use mathlib.Core.List.{List, [], _∷_, _++_}
@@ -9,11 +9,11 @@ use Rattle.table.specs.declared.Class.{Class}
 use Rattle.table.specs.declared.Class.the-variants.{A, B}
 use Rattle.table.specs.Limits.{leastSize}
 use Rattle.table.specs.Wire.{sizeOf, periodOf}
-use Rattle.table.specs.Rows.{Contents, rowAt, inUse}
+use Rattle.table.specs.Rows.{Contents, rowAt, inUse, countRight}
 use Rattle.table.specs.Checks.{Outcome, accepted, refused}
 use Rattle.planner.specs.Sums.{inClass, largest, idle, send, bestSize}
-use Rattle.planner.specs.Bound.{blocking, residence, mostOf}
-use Rattle.planner.specs.Opening.{opening}
+use Rattle.planner.specs.Bound.{blocking, residence, mostOf, boundsOf}
+use Rattle.planner.specs.Opening.{standing}
 use Rattle.machine.specs.declared.Frame.{Frame}
 use Rattle.machine.specs.declared.Wire.{Wire}
 use Rattle.machine.specs.declared.Wire.the-variants.{Free, Sending}
@@ -34,9 +34,23 @@ abbrev pub onSending : (Frame → ℕ → Bool) → Wire → Bool
 onSending ok Free = true
 onSending ok (Sending f left) = ok f left
 
--- Its table is accepted.
+-- Its table is accepted, with empty numbers passed over.
 unfoldable pub tableSound : State → Bool
-tableSound s = isAccepted (opening (s .table))
+tableSound s = isAccepted (standing (s .table))
+
+-- Its row count is one above the highest number in use.
+unfoldable pub countSound : State → Bool
+countSound s = countRight (s .table)
+
+-- Its bounds are those of its table.
+abbrev pub sameNumbers : List ℕ → List ℕ → Bool
+sameNumbers [] [] = true
+sameNumbers [] (y ∷ ys) = false
+sameNumbers (x ∷ xs) [] = false
+sameNumbers (x ∷ xs) (y ∷ ys) = eqb x y && sameNumbers xs ys
+
+unfoldable pub boundsSound : State → Bool
+boundsSound s = sameNumbers (s .bounds) (boundsOf (s .table))
 
 -- Its clock is in range.
 unfoldable pub clockSound : State → Bool
@@ -123,13 +137,13 @@ sending (Sending f left) = f ∷ []
 unfoldable pub takenOf : ℕ → State → List ℕ
 takenOf k s = takenIn k (sending (s .wire) ++ (s .a ++ s .b))
 
--- What holds of each row.
+-- What holds of each number below n, and of each number in use.
 abbrev pub upTo : ℕ → (ℕ → Bool) → Bool
 upTo zero ok = true
 upTo (suc n) ok = upTo n ok && ok n
 
 abbrev pub eachRow : (ℕ → Bool) → State → Bool
-eachRow ok s = upTo (length (s .table .rows)) ok
+eachRow ok s = upTo (length (s .table .rows)) (λ k. cond (inUse (s .table) k) (ok k) true)
 
 -- A row has no more frames in the port than its residence divided by its period, rounded up.
 unfoldable pub heldSound : State → Bool
@@ -187,6 +201,8 @@ unfoldable pub sound : State → Bool
 sound s =
     allTrue
     (tableSound s
+    ∷ countSound s
+    ∷ boundsSound s
     ∷ clockSound s
     ∷ creditSound A s
     ∷ creditSound B s

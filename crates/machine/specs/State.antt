@@ -1,15 +1,19 @@
 -- A port by its parts.
 use Prim.Native.Nat.{ℕ, _-_, _≤_}
 use mathlib.Core.Bool.{true, false, cond}
-use mathlib.Core.List.{List, [], _++_, map}
+use mathlib.Core.List.{List, [], _∷_, _++_, map}
 use mathlib.Core.Path.{_≡_}
 use lib.IntN.{ℤ, pos}
 use lib.ListN.{take, length, replicate}
 use Rattle.table.specs.declared.Class.{Class}
 use Rattle.table.specs.declared.Class.the-variants.{A, B}
+use Rattle.table.specs.declared.Row.{Row}
 use Rattle.table.specs.declared.Table.{Table}
 use Rattle.table.specs.Limits.{mostRows}
-use Rattle.table.specs.Rows.{Contents, contents}
+use Rattle.table.specs.Rows.{isThere, Contents, rowsOf, contents}
+use Rattle.table.specs.Checks.{Outcome, accepted, refused}
+use Rattle.planner.specs.Bound.{boundsOf}
+use Rattle.planner.specs.Opening.{opening}
 use Rattle.machine.specs.declared.Frame.{Frame}
 use Rattle.machine.specs.declared.Wire.{Wire}
 use Rattle.machine.specs.declared.Wire.the-variants.{Free}
@@ -22,9 +26,11 @@ pub data Instant : Type 0 where
   never : Instant
   at : ℕ → Instant
 
--- A port has its table, a clock, two credits, three first-in-first-out queues (A, B, best effort), the instant of each row's last taken frame, and the wire.
+-- A port has its table, the bounds of the table's numbers, a clock, two credits, three first-in-first-out queues (A, B, best effort), the instant of each row's last
+-- taken frame, and the wire.
 pub record State : Type 0 where
   pub table : Contents
+  pub bounds : List ℕ
   pub clock : ℕ
   pub credita : ℤ
   pub creditb : ℤ
@@ -44,10 +50,10 @@ queue B s = s .b
 
 -- A port with another part, and all else as it was.
 abbrev pub withClock : ℕ → State → State
-withClock x s = record { table = s .table; clock = x; credita = s .credita; creditb = s .creditb; a = s .a; b = s .b; best = s .best; last = s .last; wire = s .wire }
+withClock x s = record { table = s .table; bounds = s .bounds; clock = x; credita = s .credita; creditb = s .creditb; a = s .a; b = s .b; best = s .best; last = s .last; wire = s .wire }
 
 abbrev pub withCredits : ℤ → ℤ → State → State
-withCredits x y s = record { table = s .table; clock = s .clock; credita = x; creditb = y; a = s .a; b = s .b; best = s .best; last = s .last; wire = s .wire }
+withCredits x y s = record { table = s .table; bounds = s .bounds; clock = s .clock; credita = x; creditb = y; a = s .a; b = s .b; best = s .best; last = s .last; wire = s .wire }
 
 abbrev pub instead : Class → Class → List Frame → List Frame → List Frame
 instead A A x q = x
@@ -56,22 +62,28 @@ instead B A x q = q
 instead B B x q = x
 
 abbrev pub withQueue : Class → List Frame → State → State
-withQueue c x s = record { table = s .table; clock = s .clock; credita = s .credita; creditb = s .creditb; a = instead c A x (s .a); b = instead c B x (s .b); best = s .best; last = s .last; wire = s .wire }
+withQueue c x s = record { table = s .table; bounds = s .bounds; clock = s .clock; credita = s .credita; creditb = s .creditb; a = instead c A x (s .a); b = instead c B x (s .b); best = s .best; last = s .last; wire = s .wire }
 
 abbrev pub withBest : List Frame → State → State
-withBest x s = record { table = s .table; clock = s .clock; credita = s .credita; creditb = s .creditb; a = s .a; b = s .b; best = x; last = s .last; wire = s .wire }
+withBest x s = record { table = s .table; bounds = s .bounds; clock = s .clock; credita = s .credita; creditb = s .creditb; a = s .a; b = s .b; best = x; last = s .last; wire = s .wire }
 
 abbrev pub withLast : List Instant → State → State
-withLast x s = record { table = s .table; clock = s .clock; credita = s .credita; creditb = s .creditb; a = s .a; b = s .b; best = s .best; last = x; wire = s .wire }
+withLast x s = record { table = s .table; bounds = s .bounds; clock = s .clock; credita = s .credita; creditb = s .creditb; a = s .a; b = s .b; best = s .best; last = x; wire = s .wire }
 
 abbrev pub withWire : Wire → State → State
-withWire x s = record { table = s .table; clock = s .clock; credita = s .credita; creditb = s .creditb; a = s .a; b = s .b; best = s .best; last = s .last; wire = x }
+withWire x s = record { table = s .table; bounds = s .bounds; clock = s .clock; credita = s .credita; creditb = s .creditb; a = s .a; b = s .b; best = s .best; last = s .last; wire = x }
+
+-- The bounds of a table that opening accepts; zeros at a refusal.
+abbrev pub boundsIf : Outcome → Contents → List ℕ
+boundsIf accepted t = boundsOf t
+boundsIf (refused n p) t = replicate (length (t .rows)) 0
 
 -- Fresh: clock and credits 0, no frames, no instants.
 unfoldable pub fresh : Contents → State
 fresh t =
     record {
       table = t;
+      bounds = boundsIf (opening t) t;
       clock = 0;
       credita = pos 0;
       creditb = pos 0;
@@ -92,28 +104,43 @@ waiting n places = take n places ++ replicate (n - length places) noFrame
 abbrev pub instantOf : Last → Instant
 instantOf l = cond (l .known) (at (l .taken)) never
 
--- The instants of as many rows as a table counts: those of its places. A row without a place has none.
-abbrev pub instantsOf : ℕ → List Last → List Instant
-instantsOf n places = map instantOf (take n places) ++ replicate (n - length places) never
+-- The instants of a table's numbers, from those in some places: an empty number has none, nor has one without a place.
+unfoldable pub instantsFor : List Row → List Instant → List Instant
+instantsFor [] is = []
+instantsFor (r ∷ rs) [] = never ∷ instantsFor rs []
+instantsFor (r ∷ rs) (i ∷ is) = cond (isThere r) i never ∷ instantsFor rs is
 
--- A port record by its parts: row and queue places not in use belong to none of them, nor do the instants of numbers that are no row.
+abbrev pub instantsOf : List Row → List Last → List Instant
+instantsOf rs places = instantsFor rs (map instantOf places)
+
+-- The kept bounds of as many numbers as a table counts. A number without a place has 0.
+unfoldable pub keptOf : ℕ → List ℕ → List ℕ
+keptOf n places = take n places ++ replicate (n - length places) 0
+
+-- A table with a row more or less, the bounds worked out afresh, and the instants of the numbers in use.
+abbrev pub patched : Contents → List Instant → State → State
+patched t is s = record { table = t; bounds = boundsOf t; clock = s .clock; credita = s .credita; creditb = s .creditb; a = s .a; b = s .b; best = s .best; last = instantsFor (t .rows) is; wire = s .wire }
+
+-- A port record by its parts: row and queue places not in use belong to none of them, nor do the instants of numbers that are not in use and the bounds behind the row count.
 unfoldable pub view : Port → State
 view p =
     record {
       table = contents (p .table);
+      bounds = keptOf (p .table .count) (p .bounds);
       clock = p .clock;
       credita = p .credita;
       creditb = p .creditb;
       a = waiting (p .a .count) (p .a .frames);
       b = waiting (p .b .count) (p .b .frames);
       best = waiting (p .best .count) (p .best .frames);
-      last = instantsOf (p .table .count) (p .last);
+      last = instantsOf (rowsOf (p .table)) (p .last);
       wire = p .wire;
     }
 
 -- A record whose arrays have their places, as every record has that a program holds; and zeros, which an unused place may hold.
 pub record Places (p : Port) : Type 0 where
   pub rows : length (p .table .rows) ≡ mostRows
+  pub bounds : length (p .bounds) ≡ mostRows
   pub a : length (p .a .frames) ≡ classPlaces
   pub b : length (p .b .frames) ≡ classPlaces
   pub best : length (p .best .frames) ≡ bestPlaces
@@ -138,6 +165,7 @@ unfoldable pub portOf : Table → State → Port
 portOf t s =
     record {
       table = t;
+      bounds = placed mostRows 0 (s .bounds);
       clock = s .clock;
       credita = s .credita;
       creditb = s .creditb;
@@ -148,10 +176,11 @@ portOf t s =
       wire = s .wire;
     }
 
--- A port whose parts find their places: as many things as there are places at most, and an instant or none for each row.
+-- A port whose parts find their places: as many things as there are places at most, and a bound and an instant or none for each number; an empty number has none.
 pub record Placed (s : State) : Type 0 where
   pub rows : length (s .table .rows) ≤ mostRows
+  pub bounds : length (s .bounds) ≡ length (s .table .rows)
   pub a : length (s .a) ≤ classPlaces
   pub b : length (s .b) ≤ classPlaces
   pub best : length (s .best) ≤ bestPlaces
-  pub last : length (s .last) ≡ length (s .table .rows)
+  pub last : instantsFor (s .table .rows) (s .last) ≡ s .last

@@ -50,7 +50,7 @@ pub struct Last {
     pub taken: u64,
 }
 
-// A port.
+// A port. It keeps the bounds of its table's numbers. (They stand apart from the table: side by side the two would be copied in each call of a list.)
 pub struct Port {
     pub table: table::Table,
     pub clock: u64,
@@ -60,10 +60,11 @@ pub struct Port {
     pub b: Queue,
     pub best: BestQueue,
     pub last: [Last; ROWS],
+    pub bounds: [u64; ROWS],
     pub wire: Wire,
 }
 
-// Why a call is refused. specs/Calls.antt gives each case its number; the place is 0.
+// Why a call is refused. specs/Calls.antt gives each case its number and place.
 pub enum Denial {
     Broken,
     NoSuchRow,
@@ -72,9 +73,15 @@ pub enum Denial {
     BestEffortFull,
     TooManySteps,
     PastLastClock,
+    // A join at a number in use, or above 31.
+    InUse,
+    // A leave with a frame in the port, or a credit that is not 0.
+    Busy,
+    // A join or a leave that makes a table which is not accepted.
+    Misfit(table::Refusal),
 }
 
-// The answer of an offer.
+// The answer of an offer, a join or a leave.
 pub enum Offer {
     Taken,
     Refused(Denial),
@@ -98,7 +105,7 @@ pub struct AfterOpening {
     pub port: Port,
 }
 
-// What an offer gives back.
+// What an offer, a join or a leave gives back.
 pub struct AfterOffer {
     pub answer: Offer,
     pub port: Port,
@@ -110,7 +117,7 @@ pub struct AfterAdvance {
     pub port: Port,
 }
 
-// What a call answers: an offer is taken, an advance gives the count passed and the ended frame, or the call is refused.
+// What a call answers: an offer, a join or a leave is taken, an advance gives the count passed and the ended frame, or the call is refused.
 pub enum Reply {
     Taken,
     Passed(u64, Ended),
@@ -128,7 +135,7 @@ pub enum Change {
     JoinedBest(Frame),
 }
 
-// What a call comes to: its answer, the clock, the credits and the wire afterwards, and the queue that it changes.
+// What an offer or an advance comes to: its answer, the clock, the credits and the wire afterwards, and the queue that it changes.
 pub struct Effect {
     pub reply: Reply,
     pub clock: u64,
@@ -136,4 +143,13 @@ pub struct Effect {
     pub creditb: i64,
     pub wire: Wire,
     pub change: Change,
+}
+
+// What a join or a leave comes to: its answer, the table and its bounds afterwards, and the number whose last instant is cleared, 32 for none. At a refusal the table and the bounds are
+// the port's.
+pub struct Patch {
+    pub answer: Offer,
+    pub table: table::Table,
+    pub bounds: [u64; ROWS],
+    pub cleared: usize,
 }

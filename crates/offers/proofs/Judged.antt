@@ -9,7 +9,7 @@ use Rattle.table.specs.declared.Class.{Class}
 use Rattle.table.specs.declared.Class.the-variants.{A, B}
 use Rattle.table.specs.Limits.{mostRows}
 use Rattle.table.specs.Wire.{wireSize, sizeFor, periodOf}
-use Rattle.table.specs.Rows.{noRow, rowAt, InUse}
+use Rattle.table.specs.Rows.{noRow, isThere, rowsOf, rowAt, inUse, InUse}
 use Rattle.table.specs.Checks.{Outcome, accepted, refused}
 use Rattle.table.proofs.Laws as table
 use Rattle.machine.specs.declared.Denial.{Denial}
@@ -23,7 +23,7 @@ use Rattle.machine.specs.declared.Effect.{Effect}
 use Rattle.machine.specs.Limits.{classPlaces, bestPlaces, bestMark}
 use Rattle.machine.specs.State.{State, queue, instantOf, view}
 use Rattle.machine.specs.Record.{sound}
-use Rattle.machine.specs.Calls.{Call, offer, offerBest, taken, tooSoon, early, offerCheck, bestCheck, rowFrame, joined, takeRow, takeBest, answerBy, answer, numberOf, offerAnswer, Gives}
+use Rattle.machine.specs.Calls.{Call, offer, offerBest, taken, tooSoon, early, offerCheck, bestCheck, rowFrame, joined, takeRow, takeBest, answerBy, answer, numberOf, placeOf, offerAnswer, Gives}
 use Rattle.machine.specs.Effects.{replyAnswer, carriedOut, HasRow, Room, Comes}
 use Rattle.machine.proofs.FromSound.{clauses, is-accepted, place-left}
 use Rattle.machine.proofs.Places.{Places, zeroLast, waiting-length, instants-length, instant-at}
@@ -37,9 +37,9 @@ module _ (s : State) (k x : ℕ) where
   broken e = rw e refl
 
   module _ (ok : sound s ≡ true) where
-    pub no-such-row : length (s .table .rows) ≤ k → offerCheck s k x ≡ refused 11 0
+    pub no-such-row : inUse (s .table) k ≡ false → offerCheck s k x ≡ refused 11 0
     unfolding offerCheck
-    no-such-row h = rw (ok, table.unused (s .table) k h) refl
+    no-such-row h = rw (ok, h) refl
 
     module _ (in-use : InUse (s .table) k) where
       pub too-large : rowAt (s .table) k .payload < x → offerCheck s k x ≡ refused 12 0
@@ -92,31 +92,29 @@ module _ (p : Port) where
     few-rows = rw row-count at (is-accepted (view p) (clauses (view p) ok) .ranges .most)
 
     module _ (places : Places p) (k : ℕ) (h : k < p .table .count) where
-      placed : k < length (p .last)
-      placed = rw (places .last) (omega (arith, few-rows))
-
-      pub in-use : InUse (view p .table) k
-      unfolding view
-      in-use = table.in-use (p .table) k h
-
       pub row-is : rowAt (view p .table) k ≡ getD (p .table .rows) k noRow
       unfolding view
       row-is = table.row-at (p .table) (places .rows) few-rows k h
 
-      pub early-is : early (view p) k ≡ tooSoon (instantOf (getD (p .last) k zeroLast)) (p .clock) (periodOf (getD (p .table .rows) k noRow))
-      unfolding view
-      early-is = rw (instant-at (p .last) (p .table .count) k h placed, table.row-at (p .table) (places .rows) few-rows k h) refl
+      module _ (there : isThere (getD (p .table .rows) k noRow) ≡ true) where
+        pub in-use : InUse (view p .table) k
+        unfolding view
+        in-use = table.in-use (p .table) (places .rows) few-rows k h there
 
-      -- an offer that is let pass finds a place in its class's queue
-      room : early (view p) k ≡ false → length (queue (rowAt (view p .table) k .class) (view p)) < classPlaces
-      room late = place-left (view p) (clauses (view p) ok) k in-use late
+        pub early-is : early (view p) k ≡ tooSoon (instantOf (getD (p .last) k zeroLast)) (p .clock) (periodOf (getD (p .table .rows) k noRow))
+        unfolding view
+        early-is = rw (instant-at (rowsOf (p .table)) (p .last) k (in-use .there), table.row-at (p .table) (places .rows) few-rows k h) refl
+
+        -- an offer that is let pass finds a place in its class's queue
+        room : early (view p) k ≡ false → length (queue (rowAt (view p .table) k .class) (view p)) < classPlaces
+        room late = place-left (view p) (clauses (view p) ok) k in-use late
 
 -- ---- what an offer comes to
 module _ (p : Port) {e : Effect} where
-  pub row-refused : (k x : ℕ) (d : Denial) → offerCheck (view p) k x ≡ refused (numberOf d) 0 → e ≡ effectOn p (Refused d) None → Comes p (offer k x) e
+  pub row-refused : (k x : ℕ) (d : Denial) → offerCheck (view p) k x ≡ refused (numberOf d) (placeOf d) → e ≡ effectOn p (Refused d) None → Comes p (offer k x) e
   row-refused k x d h q = refuses p (offer k x) d (rw h refl) (rw h refl) q
 
-  pub best-refused : (x : ℕ) (d : Denial) → bestCheck (view p) x ≡ refused (numberOf d) 0 → e ≡ effectOn p (Refused d) None → Comes p (offerBest x) e
+  pub best-refused : (x : ℕ) (d : Denial) → bestCheck (view p) x ≡ refused (numberOf d) (placeOf d) → e ≡ effectOn p (Refused d) None → Comes p (offerBest x) e
   best-refused x d h q = refuses p (offerBest x) d (rw h refl) (rw h refl) q
 
 -- a row's frame joins its class's queue
@@ -129,13 +127,13 @@ joins-room : (c : Class) (f : Frame) (s : State) → length (queue c s) < classP
 joins-room A f s h g = (h, g)
 joins-room B f s h g = (h, g)
 
-module _ (p : Port) (ok : sound (view p) ≡ true) (places : Places p) (k : ℕ) (h : k < p .table .count) where
+module _ (p : Port) (ok : sound (view p) ≡ true) (places : Places p) (k : ℕ) (h : k < p .table .count) (there : isThere (getD (p .table .rows) k noRow) ≡ true) where
   pub row-accepted : (x size : ℕ) {e : Effect} → x ≤ rowAt (view p .table) k .payload → early (view p) k ≡ false → size ≡ sizeFor (getD (p .table .rows) k noRow) x → e ≡ effectOn p Taken (joinedIn (getD (p .table .rows) k noRow .class) (record { source = k; size = size; taken = p .clock })) → Comes p (offer k x) e
   unfolding view takeRow
   row-accepted x size few late z q =
-      let check = passes (view p) k x ok (in-use p ok places k h) few late in
+      let check = passes (view p) k x ok (in-use p ok places k h there) few late in
       let c = rowAt (view p .table) k .class in
-      rw (q, z, ← row-is p ok places k h) (record { answer = rw check refl; port = rw check (joins p c (rowFrame (view p) k x)); room = joins-room c _ (view p) (room p ok places k h late) (omega (arith, few-rows p ok), rw (instants-length (p .table .count) (p .last)) h); kept = tt })
+      rw (q, z, ← row-is p ok places k h) (record { answer = rw check refl; port = rw check (joins p c (rowFrame (view p) k x)); room = joins-room c _ (view p) (room p ok places k h there late) (omega (arith, few-rows p ok), rw (instants-length (rowsOf (p .table)) (p .last)) (in-use p ok places k h there .below), in-use p ok places k h there .there); kept = tt })
 
 module _ (p : Port) (ok : sound (view p) ≡ true) where
   pub best-accepted : (x size : ℕ) {e : Effect} → x ≤ p .table .header .payload → p .best .count < bestPlaces → size ≡ wireSize x → e ≡ effectOn p Taken (JoinedBest (record { source = bestMark; size = size; taken = p .clock })) → Comes p (offerBest x) e

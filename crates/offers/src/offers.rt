@@ -24,6 +24,7 @@ use record::check::is_sound;
 use table::Class;
 use table::ROWS;
 use table::Row;
+use table::rows::is_there;
 use table::wire::period;
 use table::wire::size_for;
 use table::wire::wire_size;
@@ -89,6 +90,9 @@ pub fn judge(p: Port, whole: bool, row: u64, payload: u64) -> Effect
     let k = row as usize;
     let t = p.table;
     let stream = t.rows[k];
+    if !is_there(stream) {
+        return refused(p, Denial::NoSuchRow);
+    }
     if (stream.payload as u64) < payload {
         return refused(p, Denial::Payload);
     }
@@ -107,7 +111,7 @@ pub fn judge(p: Port, whole: bool, row: u64, payload: u64) -> Effect
     effect(p, Reply::Taken, change)
 }
 
-// What an offer of best effort comes to. The first check that fails decides: broken record, payload, 16 waiting.
+// What an offer of best effort comes to, told the same. The first check that fails decides: broken record, payload, 16 waiting.
 pub fn judge_best(port: Port, whole: bool, payload: u64) -> Effect
     ensures { λ e. ⌜ (whole ≡ sound (view port) → Comes port (offerBest payload) e) ⌝ }
 {

@@ -1,6 +1,6 @@
--- The laws of an accepted table, stated over the class: all that the crates above may know of how a bound is worked out.
+-- The laws of an accepted table, stated over the class: with those of `Growth` all that the crates above may know of how a bound is worked out.
 use Prim.Native.Nat.{ℕ, suc, _+_, _-_, _*_, _/_, _≤_, _<_, max}
-use mathlib.Core.Bool.{Bool, true, false, cond, false≢true}
+use mathlib.Core.Bool.{Bool, true, false, cond, _&&_, false≢true}
 use mathlib.Core.List.{List, [], _∷_}
 use mathlib.Core.Logic.{_↔_, ⊎-elim}
 use mathlib.Core.Path.{_≡_, refl, sym}
@@ -12,20 +12,20 @@ use borrow.Author.Tests.{leb-true, le-leb, lt-leb, ltb-true, ltb-false, eq-eqb, 
 use Rattle.table.specs.declared.Class.{Class}
 use Rattle.table.specs.declared.Class.the-variants.{A, B}
 use Rattle.table.specs.declared.Row.{Row}
-use Rattle.table.specs.Limits.{D, mostRows, mostSlope, mostSize, leastSize, leastPeriod, classPlaces, leftAtReport}
+use Rattle.table.specs.Limits.{D, mostRows, mostSlope, mostPayload, mostSize, leastSize, leastPeriod, classPlaces, leftAtReport}
 use Rattle.table.specs.Wire.{ceilDiv, wireSize, sizeOf, periodOf, shareOf}
-use Rattle.table.specs.Rows.{noRow, Contents, rowAt, InUse}
+use Rattle.table.specs.Rows.{noRow, isThere, Contents, rowAt, InUse}
 use Rattle.table.specs.Checks.{accepted, refused}
-use Rattle.table.specs.Ranges.{Every, InRange}
+use Rattle.table.specs.Ranges.{countOk, headerOk, rowOk, Every, InRange}
 use Rattle.table.proofs.Laws as table
-use Rattle.planner.specs.Sums.{inClass, part, sumOver, maxOver, members, largest, total, shares, idle, send, bestSize}
+use Rattle.planner.specs.Sums.{inClass, counts, part, sumOver, maxOver, members, largest, total, shares, idle, send, bestSize}
 use Rattle.planner.specs.Bound.{blocking, residenceIn, residence, bound, mostOf, mostIn}
-use Rattle.planner.specs.Opening.{usedOk, slopesOk, sharesOk, timely, roomOk, opening, IsAccepted}
+use Rattle.planner.specs.Opening.{usedOk, slopesOk, sharesOk, timely, roomOk, opening, rowPasses, rangedAround, standing, verdictBy, RangesAround, IsAccepted}
 use Rattle.planner.specs.Plan.{laneOf, pickLane, mostModest, modest, residenceBy}
 use Rattle.planner.proofs.Members.{sum-at, max-at}
-use Rattle.planner.proofs.Checks.{opening-passes, slope-limits}
--- the bound of a row in the list of bounds, and its residence in that of residences
-pub use Rattle.planner.proofs.Limits.{bounds-row}
+use Rattle.planner.proofs.Checks.{ranged-by, verdict-passes, slope-limits}
+-- the bound of a row in the list of bounds
+pub use Rattle.planner.proofs.Limits.{bound-at, all-filled, bounds-row}
 
 -- ---- sums over a class
 pub sum-none : (c : Class) (f : Row → ℕ) → sumOver c f [] ≡ 0
@@ -50,26 +50,27 @@ unfolding mostIn
 most-sum c t = refl
 
 -- the largest of a class is at most what each row is at most
-part-most : (c : Class) (f : Row → ℕ) (m : ℕ) (r : Row) → f r ≤ m → part c f r ≤ m
-part-most c f m r h = go (inClass c r)
+part-most : (c : Class) (f : Row → ℕ) (m : ℕ) (r : Row) → (isThere r ≡ true → f r ≤ m) → part c f r ≤ m
+part-most c f m r h = go (inClass c r) (isThere r) refl
   where
-    go : (b : Bool) → cond b (f r) 0 ≤ m
-    go true = h
-    go false = omega arith
+    go : (a b : Bool) → isThere r ≡ b → cond (a && b) (f r) 0 ≤ m
+    go true true e = h e
+    go true false e = omega arith
+    go false b e = omega arith
 
-max-most : (c : Class) (f : Row → ℕ) (m : ℕ) (rs : List Row) → Every (λ r. f r ≤ m) rs → maxOver c f rs ≤ m
+max-most : (c : Class) (f : Row → ℕ) (m : ℕ) (rs : List Row) → Every (λ r. isThere r ≡ true → f r ≤ m) rs → maxOver c f rs ≤ m
 unfolding maxOver
 max-most c f m [] e = omega arith
 max-most c f m (r ∷ rs) e = max-le (part-most c f m r (e .0)) (max-most c f m rs (e .1))
 
 -- and the sum at most that for each row
-sum-most : (c : Class) (f : Row → ℕ) (m : ℕ) (rs : List Row) → Every (λ r. f r ≤ m) rs → sumOver c f rs ≤ length rs * m
+sum-most : (c : Class) (f : Row → ℕ) (m : ℕ) (rs : List Row) → Every (λ r. isThere r ≡ true → f r ≤ m) rs → sumOver c f rs ≤ length rs * m
 unfolding sumOver
 sum-most c f m [] e = omega arith
 sum-most c f m (r ∷ rs) e = omega (arith, part-most c f m r (e .0), sum-most c f m rs (e .1))
 
 -- ---- an accepted table is one that opening accepts
-used-iff : (c : Class) (t : Contents) → usedOk c t ≡ true → (idle c t ≡ 0) ↔ (members c t ≡ 0)
+pub used-iff : (c : Class) (t : Contents) → usedOk c t ≡ true → (idle c t ≡ 0) ↔ (members c t ≡ 0)
 unfolding usedOk
 used-iff c t e = (there, back)
   where
@@ -79,13 +80,17 @@ used-iff c t e = (there, back)
     back : members c t ≡ 0 → idle c t ≡ 0
     back z = ⊎-elim (λ q. q) (λ q. absurd (false≢true (rw (ne-eqb (idle c t) 0 (λ w. omega arith), eq-eqb (members c t) 0 z) at e))) (eq-zero-or-pos (idle c t))
 
-timely-at : (t : Contents) (r : Row) → timely t r ≡ true → bound t r ≤ r .deadline
+timely-at : (t : Contents) (r : Row) → timely t r ≡ true → isThere r ≡ true → bound t r ≤ r .deadline
 unfolding timely
-timely-at t r e = leb-true (bound t r) (r .deadline) e
+timely-at t r e h = leb-true (bound t r) (r .deadline) (rw h at e)
 
-at-timely : (t : Contents) (r : Row) → bound t r ≤ r .deadline → timely t r ≡ true
+at-timely : (t : Contents) (r : Row) → (isThere r ≡ true → bound t r ≤ r .deadline) → timely t r ≡ true
 unfolding timely
-at-timely t r h = le-leb (bound t r) (r .deadline) h
+at-timely t r h = go (isThere r) refl
+  where
+    go : (b : Bool) → isThere r ≡ b → cond b (leb (bound t r) (r .deadline)) true ≡ true
+    go true e = le-leb (bound t r) (r .deadline) (h e)
+    go false e = refl
 
 fair-at : (c : Class) (t : Contents) → sharesOk c t ≡ true → shares c t ≤ idle c t
 unfolding sharesOk
@@ -95,16 +100,18 @@ room-at : (c : Class) (t : Contents) → roomOk c t ≡ true → mostIn c t ≤ 
 unfolding roomOk
 room-at c t e = leb-true (mostIn c t) classPlaces e
 
-pub accepted-if : (t : Contents) → opening t ≡ accepted → IsAccepted t
-accepted-if t e =
-    let p = opening-passes t e in
+-- whichever verdict is asked for
+pub accepted-by : (gaps : Bool) (t : Contents) → verdictBy gaps t ≡ accepted → IsAccepted t
+accepted-by gaps t e =
+    let v = verdict-passes gaps t e in
+    let p = v .1 in
     let s = slope-limits t (p .slopes) in
     record {
-      ranges = p .ranges;
+      ranges = ranged-by gaps t (v .0);
       used = used-of (s .0) (s .1);
       slopes = s .2;
       fair = fair-of (p .shares-a) (p .shares-b);
-      timely = table.every-map (λ r. timely t r ≡ true) (λ r. bound t r ≤ r .deadline) (timely-at t) (t .rows) (p .timely);
+      timely = table.every-map (λ r. timely t r ≡ true) (λ r. isThere r ≡ true → bound t r ≤ r .deadline) (timely-at t) (t .rows) (p .timely);
       room = room-of (p .room-a) (p .room-b);
     }
   where
@@ -128,17 +135,51 @@ used-passes c t e =
     (λ p. rw (ne-eqb (idle c t) 0 (λ z. omega arith), ne-eqb (members c t) 0 (λ z. absurd (omega (arith, e .1 z)))) refl)
     (eq-zero-or-pos (idle c t))
 
-pub accepted-only-if : (t : Contents) → IsAccepted t → opening t ≡ accepted
-unfolding opening slopesOk sharesOk roomOk
-accepted-only-if t ok =
+-- a table may be opened: it is accepted, and no number below its count is empty
+pub accepted-if : (t : Contents) → opening t ≡ accepted → IsAccepted t
+accepted-if t e = accepted-by false t e
+
+pub opened-full : (t : Contents) → opening t ≡ accepted → Every (λ r. isThere r ≡ true) (t .rows)
+opened-full t e = table.every-map InRange (λ r. isThere r ≡ true) (λ r h. table.in-range-there r (h .positive)) (t .rows) (table.ranged-if t (verdict-passes false t e .0) .rows)
+
+-- a table stands: it is accepted
+pub standing-slopes : (t : Contents) → standing t ≡ accepted → slopesOk t ≡ true
+standing-slopes t e = verdict-passes true t e .1 .slopes
+
+pub standing-if : (t : Contents) → standing t ≡ accepted → IsAccepted t
+standing-if t e = accepted-by true t e
+
+pub around-only-if : (t : Contents) → RangesAround t → rangedAround t ≡ accepted
+unfolding rangedAround countOk headerOk
+around-only-if t ok =
     rw (
-      table.ranged-only-if t (ok .ranges),
+      le-leb 1 (length (t .rows)) (ok .some),
+      le-leb (length (t .rows)) mostRows (ok .most),
+      le-leb (t .header .idlea) mostSlope (ok .idlea),
+      le-leb (t .header .idleb) mostSlope (ok .idleb),
+      le-leb (t .header .payload) mostPayload (ok .best),
+      table.unlessRow-accepts rowPasses (t .rows) 5 (table.every-map (λ r. isThere r ≡ true → InRange r) (λ r. rowPasses r ≡ true) passes (t .rows) (ok .rows)),
+    )
+    refl
+  where
+    passes : (r : Row) → (isThere r ≡ true → InRange r) → rowPasses r ≡ true
+    passes r h = go (isThere r) refl
+      where
+        go : (b : Bool) → isThere r ≡ b → cond b (rowOk r) true ≡ true
+        go true e = table.row-passes r (h e)
+        go false e = refl
+
+pub standing-only-if : (t : Contents) → IsAccepted t → standing t ≡ accepted
+unfolding standing slopesOk sharesOk roomOk
+standing-only-if t ok =
+    rw (
+      around-only-if t (ok .ranges),
       used-passes A t (ok .used A),
       used-passes B t (ok .used B),
       le-leb (idle A t + idle B t) mostSlope (ok .slopes),
       le-leb (shares A t) (idle A t) (ok .fair A),
       le-leb (shares B t) (idle B t) (ok .fair B),
-      table.unlessRow-accepts (timely t) (t .rows) 10 (table.every-map (λ r. bound t r ≤ r .deadline) (λ r. timely t r ≡ true) (at-timely t) (t .rows) (ok .timely)),
+      table.unlessRow-accepts (timely t) (t .rows) 10 (table.every-map (λ r. isThere r ≡ true → bound t r ≤ r .deadline) (λ r. timely t r ≡ true) (at-timely t) (t .rows) (ok .timely)),
       le-leb (mostIn A t) classPlaces (ok .room A),
       le-leb (mostIn B t) classPlaces (ok .room B),
     )
@@ -179,12 +220,16 @@ pub residence-some : (t : Contents) (r : Row) → 0 < residence t r
 unfolding residence residenceIn
 residence-some t r = omega (arith, table.size-least r)
 
+pub bound-some : (t : Contents) (r : Row) → 0 < bound t r
+unfolding bound residence residenceIn
+bound-some t r = omega (arith, table.size-least r)
+
 module _ (t : Contents) (ok : IsAccepted t) where
   pub rows-most : length (t .rows) ≤ mostRows
   rows-most = ok .ranges .most
 
-  sizes : Every (λ r. sizeOf r ≤ mostSize) (t .rows)
-  sizes = table.every-map InRange (λ r. sizeOf r ≤ mostSize) (λ r h. table.size-most r (h .payload)) (t .rows) (ok .ranges .rows)
+  sizes : Every (λ r. isThere r ≡ true → sizeOf r ≤ mostSize) (t .rows)
+  sizes = table.every-map (λ r. isThere r ≡ true → InRange r) (λ r. isThere r ≡ true → sizeOf r ≤ mostSize) (λ r h e. table.size-most r (h e .payload)) (t .rows) (ok .ranges .rows)
 
   pub best-least : leastSize ≤ bestSize t
   unfolding bestSize
@@ -260,11 +305,11 @@ module _ (t : Contents) (ok : IsAccepted t) where
 
   -- ---- the row at a number in use
   module _ (k : ℕ) (in-use : InUse t k) where
-    own : inClass (classAt t k) (rowAt t k) ≡ true
-    own = table.same-self (classAt t k)
+    own : counts (classAt t k) (rowAt t k) ≡ true
+    own = rw (table.same-self (classAt t k), in-use .there) refl
 
     row-range : InRange (rowAt t k)
-    row-range = table.every-at InRange (t .rows) (ok .ranges .rows) k (in-use .below)
+    row-range = table.every-at (λ r. isThere r ≡ true → InRange r) (t .rows) (ok .ranges .rows) k (in-use .below) (in-use .there)
 
     pub size-largest : sizeOf (rowAt t k) ≤ largest (classAt t k) t
     unfolding largest

@@ -12,9 +12,10 @@ use Rattle.table.specs.Limits.{mostRows}
 use Rattle.table.specs.Wire.{sizeOf, shareOf}
 use Rattle.table.specs.Rows.{rowsOf, noRow, contents}
 use Rattle.table.proofs.Laws.{next-row, no-row}
-use Rattle.planner.specs.declared.Figures.{Figures}
+use Rattle.figures.specs.declared.Figures.{Figures}
 use Rattle.planner.specs.Sums.{part, sumOver, maxOver, members, largest, total, shares}
-use Rattle.planner.specs.Steps.{figuresOf, joined}
+use Rattle.figures.specs.Steps.{joined}
+use Rattle.planner.specs.Steps.{figuresOf}
 
 pub record Remaining (c : Class) (t : Table) (i : ℕ) (f : Figures) : Type 0 where
   pub members : f .members + sumOver c (λ r. 1) (drop i (rowsOf t)) ≡ members c (contents t)

@@ -1,4 +1,4 @@
--- Laws that belong to no one function. `Laws` is what the crates above may cite.
+-- Laws that belong to no one function. `Laws` and `Growth` are what the crates above may cite.
 mod Left
 mod Members
 mod Fill
@@ -7,4 +7,5 @@ mod Worked
 mod Crowd
 mod Checks
 mod Verdicts
+pub mod Growth
 pub mod Laws

@@ -1,8 +1,8 @@
--- Residences as the code works them out: from a row's wire size and its class.
+-- Residences as the code works them out: from a row and the two classes.
 use Prim.Native.Nat.{ℕ, _≤_, _<_}
 use mathlib.Core.Bool.{true}
 use mathlib.Core.Logic.{⊎-elim}
-use mathlib.Core.Path.{_≡_, refl, _∙_}
+use mathlib.Core.Path.{_≡_, refl}
 use native.Mathlib.Nat.{eq-zero-or-pos}
 use native.Mathlib.Omega.{arith}
 use lib.Dec.{eqb}
@@ -11,15 +11,15 @@ use borrow.Author.Tests.{eq-eqb, eqb-true}
 use Rattle.table.specs.declared.Class.{Class}
 use Rattle.table.specs.declared.Class.the-variants.{A, B}
 use Rattle.table.specs.declared.Table.{Table}
-use Rattle.planner.specs.declared.Lane.{Lane}
+use Rattle.figures.specs.declared.Lane.{Lane}
 use Rattle.table.specs.Limits.{mostRows}
-use Rattle.table.specs.Wire.{sizeOf}
 use Rattle.table.specs.Rows.{noRow, Contents, contents}
 use Rattle.planner.specs.Sums.{members, idle}
-use Rattle.planner.specs.Bound.{residenceIn, residence}
+use Rattle.planner.specs.Bound.{residenceIn, residence, ifThere}
 use Rattle.planner.specs.Opening.{usedOk}
-use Rattle.planner.specs.Plan.{laneOf, residenceWith, pickLane}
-use Rattle.planner.specs.Steps.{Modest, Lanes}
+use Rattle.planner.specs.Plan.{laneOf, pickLane}
+use Rattle.figures.specs.Steps.{Modest, Ready, timeBy}
+use Rattle.planner.specs.Steps.{Lanes}
 use Rattle.planner.proofs.Limits.{counted, summed}
 
 picked : (k : Class) (t : Contents) {a b : Lane} → a ≡ laneOf A t → b ≡ laneOf B t → pickLane k a b ≡ laneOf k t
@@ -45,17 +45,17 @@ class-used k t e m =
     (λ p. p)
     (eq-zero-or-pos (idle k t))
 
-module _ (t : Table) (long : length (t .rows) ≡ 32) (few : t .count ≤ mostRows) (i : ℕ) (h : i < t .count) {a b l : Lane} {s : ℕ} (ready : Lanes (contents t) a b) (el : l ≡ pickLane (getD (t .rows) i noRow .class) a b) (es : s ≡ sizeOf (getD (t .rows) i noRow)) where
-  is-lane : l ≡ laneOf (getD (t .rows) i noRow .class) (contents t)
-  is-lane = el ∙ picked (getD (t .rows) i noRow .class) (contents t) (ready .is-a) (ready .is-b)
+module _ (t : Table) {a b : Lane} (lanes : Lanes (contents t) a b) (i : ℕ) where
+  is-lane : pickLane (getD (t .rows) i noRow .class) a b ≡ laneOf (getD (t .rows) i noRow .class) (contents t)
+  is-lane = picked (getD (t .rows) i noRow .class) (contents t) (lanes .is-a) (lanes .is-b)
 
-  pub residence-ready : Modest l × ((0 < l .idle) × (s ≤ l .total))
-  residence-ready =
+  pub residence-ready : length (t .rows) ≡ 32 → t .count ≤ mostRows → i < t .count → Ready (getD (t .rows) i noRow) a b
+  residence-ready long few h there =
       let k = getD (t .rows) i noRow .class in (
-        rw el (modest k (ready .modest-a) (ready .modest-b)),
-        (rw is-lane (class-used k (contents t) (used-both k (contents t) (ready .used-a) (ready .used-b)) (counted t long few i h)), rw (is-lane, es) (summed t long few i h)),
+        modest k (lanes .modest-a) (lanes .modest-b),
+        (rw is-lane (class-used k (contents t) (used-both k (contents t) (lanes .used-a) (lanes .used-b)) (counted t long few i h there)), rw is-lane (summed t long few i h there)),
       )
 
-  pub residence-worked : residenceWith s l ≡ residence (contents t) (getD (t .rows) i noRow)
+  pub residence-worked : timeBy a b (getD (t .rows) i noRow) ≡ ifThere (residence (contents t)) (getD (t .rows) i noRow)
   unfolding residence residenceIn
-  residence-worked = rw (is-lane, es) refl
+  residence-worked = rw is-lane refl

@@ -5,9 +5,10 @@ use lib.ListN.{length, replicate}
 use Rattle.table.specs.declared.Class.{Class}
 use Rattle.table.specs.declared.Class.the-variants.{A, B}
 use Rattle.table.specs.declared.Row.{Row}
-use Rattle.table.specs.Limits.{D, mostRows, leftAtReport}
+use Rattle.table.specs.Limits.{D, mostRows}
 use Rattle.table.specs.Wire.{ceilDiv, sizeOf, periodOf}
 use Rattle.table.specs.Rows.{Contents}
+pub use Rattle.figures.specs.Parts.{untilReport, ifThere}
 use Rattle.planner.specs.Sums.{sumOver, largest, total, idle, send, bestSize}
 
 -- H. Class A: max(LB, LC). Class B: LA + (max(D × LC, IA × LB) / SA, rounded up), where IA, SA are A's slopes.
@@ -24,9 +25,6 @@ unfoldable pub residence : Contents → Row → ℕ
 residence t r = residenceIn (r .class) t r
 
 -- A row's bound, the longest from the instant that its frame is taken to the frame's report: its residence, less the bytes that are left at the report.
-abbrev pub untilReport : ℕ → ℕ
-untilReport n = n - leftAtReport
-
 unfoldable pub bound : Contents → Row → ℕ
 bound t r = untilReport (residence t r)
 
@@ -38,12 +36,10 @@ mostOf t r = ceilDiv (residence t r) (periodOf r)
 unfoldable pub mostIn : Class → Contents → ℕ
 mostIn c t = sumOver c (mostOf t) (t .rows)
 
--- The 32 bounds of a table, 0 in each place behind the last row; and so the residences.
-abbrev pub eachOf : (Row → ℕ) → Contents → List ℕ
-eachOf f t = map f (t .rows) ++ replicate (mostRows - length (t .rows)) 0
+-- The bounds of a table: one for each number below the row count, 0 at an empty one. A port keeps them.
+unfoldable pub boundsOf : Contents → List ℕ
+boundsOf t = map (ifThere (bound t)) (t .rows)
 
+-- The 32 bounds of a sheet, 0 in each place behind the last row.
 unfoldable pub bounds : Contents → List ℕ
-bounds t = eachOf (bound t) t
-
-unfoldable pub residences : Contents → List ℕ
-residences t = eachOf (residence t) t
+bounds t = boundsOf t ++ replicate (mostRows - length (t .rows)) 0

@@ -1,21 +1,14 @@
 -- The classes of a table: their slopes, and what each has of the rows.
 use Prim.Native.Nat.{ℕ, _+_, _-_, max}
-use mathlib.Core.Bool.{Bool, cond}
 use mathlib.Core.List.{List, [], _∷_}
 use Rattle.table.specs.declared.Class.{Class}
 use Rattle.table.specs.declared.Class.the-variants.{A, B}
 use Rattle.table.specs.declared.Row.{Row}
 use Rattle.table.specs.Limits.{D}
 use Rattle.table.specs.Wire.{wireSize, sizeOf, shareOf}
-use Rattle.table.specs.Rows.{Contents, sameClass}
-
--- A row is in a class.
-abbrev pub inClass : Class → Row → Bool
-inClass c r = sameClass c (r .class)
-
--- What a row adds to a class: its f if it is in the class, else nothing.
-abbrev pub part : Class → (Row → ℕ) → Row → ℕ
-part c f r = cond (inClass c r) (f r) 0
+use Rattle.table.specs.Rows.{Contents}
+-- What a row adds to a class: an empty number counts in no formula.
+pub use Rattle.figures.specs.Parts.{inClass, counts, part}
 
 -- The sum of f over the rows of a class.
 unfoldable pub sumOver : Class → (Row → ℕ) → List Row → ℕ

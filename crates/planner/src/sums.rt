@@ -1,43 +1,19 @@
 // The figures of the classes: their rows taken together.
-ghost use mathlib.Core.Path.{_≡_};
 ghost use Prim.Native.Nat.{_≤_};
 ghost use Rattle.table.specs.Limits.{mostRows};
 ghost use Rattle.table.specs.Rows.{contents};
-ghost use Rattle.planner.specs.Steps.{joined, Small, Grown, TotalsOf};
-use crate::Figures;
+ghost use Rattle.planner.specs.Steps.{TotalsOf};
 use crate::Totals;
+use figures::Figures;
+use figures::sums::row_passes;
+use figures::sums::with_row;
 use table::Class;
-use table::Row;
 use table::Table;
-use table::classes::same_class;
-use table::quotient::larger;
-use table::ranges::row_ok;
-use table::wire::share;
-use table::wire::size;
 
-// The figures with one row more, if it is in the class.
-fn with_row(f: Figures, class: Class, row: Row) -> Figures
-    requires { ⌜ Small 31 f ⌝ }
-    ensures { λ r. ⌜ r ≡ joined f class row ⌝ }
-    ensures grown { λ r. ⌜ Grown f r ⌝ }
-{
-    let of = row.class;
-    if !same_class(class, of) {
-        return f;
-    }
-    let c = size(row);
-    Figures {
-        members: f.members + 1,
-        largest: larger(f.largest, c),
-        total: f.total + c,
-        shares: f.shares + share(row),
-    }
-}
-
-// One pass over the rows in use: their ranges, and both classes' figures.
-pub fn summed(t: Table) -> Totals
+// One pass over the numbers below the row count: their rows' ranges, and both classes' figures.
+pub fn summed(t: Table, gaps: bool) -> Totals
     requires { ⌜ t .count ≤ mostRows ⌝ }
-    ensures { λ r. ⌜ TotalsOf (contents t) r ⌝ }
+    ensures { λ r. ⌜ TotalsOf gaps (contents t) r ⌝ }
 {
     let n = t.count;
     let none = Figures {
@@ -51,7 +27,7 @@ pub fn summed(t: Table) -> Totals
     let mut i: usize = 0;
     while i < n {
         let row = t.rows[i];
-        if !row_ok(row) {
+        if !row_passes(row, gaps) {
             return Totals { passed: i, a, b };
         }
         a = with_row(a, Class::A, row);

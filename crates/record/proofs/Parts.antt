@@ -1,6 +1,6 @@
 -- The tests of the record check against document 01's clauses: a record passes the one exactly if it passes the other.
 use Prim.Native.Nat.{ℕ, zero, suc, _-_, _<_}
-use mathlib.Core.Bool.{Bool, true, false, _&&_, _||_, false≢true}
+use mathlib.Core.Bool.{Bool, true, false, cond, _&&_, _||_, false≢true}
 use mathlib.Core.List.{List, [], _∷_, _++_}
 use mathlib.Core.Path.{_≡_, refl, sym, _∙_}
 use native.Mathlib.Omega.{arith}
@@ -10,7 +10,7 @@ use borrow.Author.Tests.{le-leb}
 use Rattle.table.specs.declared.Class.{Class}
 use Rattle.table.specs.declared.Class.the-variants.{A, B}
 use Rattle.table.specs.Wire.{periodOf}
-use Rattle.table.specs.Rows.{Contents, rowAt, InUse}
+use Rattle.table.specs.Rows.{Contents, rowAt, inUse, InUse}
 use Rattle.planner.specs.Sums.{bestSize}
 use Rattle.table.proofs.Laws as table
 use Rattle.planner.specs.Bound.{residence, mostOf}
@@ -21,7 +21,7 @@ use Rattle.machine.specs.declared.Wire.{Wire}
 use Rattle.machine.specs.declared.Wire.the-variants.{Free, Sending}
 use Rattle.machine.specs.State.{never, State}
 use Rattle.machine.specs.Time.{shaped, unshaped, owner}
-use Rattle.machine.specs.Record.{allOf, onSending, namesRow, isBest, rowIn, sizeWithin, rowSize, sizeBy, takenBy, sending, takenOf, spaced, endsAt, rowOnly, tableSound, clockSound, creditSound, bestSound, namesSound, queuesSound, sizesSound, leftSound, framesTaken, rowsTaken, heldSound, apartSound, latestSound, ageSound, sound}
+use Rattle.machine.specs.Record.{allOf, onSending, namesRow, isBest, rowIn, sizeWithin, rowSize, sizeBy, takenBy, sending, takenOf, spaced, endsAt, rowOnly, tableSound, countSound, boundsSound, clockSound, creditSound, bestSound, namesSound, queuesSound, sizesSound, leftSound, framesTaken, rowsTaken, heldSound, apartSound, latestSound, ageSound, sound}
 use Rattle.machine.proofs.FromSound.{three-true, four-true, Clauses, clauses, table-accepted, is-accepted}
 use Rattle.frames.specs.Tests.{rowTest, frameTest, bestTest, sendingTest}
 use Rattle.tally.specs.Rows.{inLimit, instantsTest, heldTest}
@@ -215,6 +215,16 @@ pub refused : (s : State) → tableSound s ≡ false → false ≡ sound s
 unfolding sound
 refused s e = rw e refl
 
+-- another row count
+pub miscounted : (s : State) → tableSound s ≡ true → countSound s ≡ false → false ≡ sound s
+unfolding sound
+miscounted s t e = rw (t, e) refl
+
+-- other bounds
+pub unbounded : (s : State) → tableSound s ≡ true → countSound s ≡ true → boundsSound s ≡ false → false ≡ sound s
+unfolding sound
+unbounded s t k e = rw (t, k, e) refl
+
 module _ (s : State) (limits : List ℕ) (right : Right (s .table) limits) where
   abbrev ofQueue : Class → List Frame → Type 0
   ofQueue c q = OfQueue c (s .table) (s .clock) q
@@ -299,21 +309,27 @@ module _ (s : State) (limits : List ℕ) (right : Right (s .table) limits) where
   abbrev latest : ℕ → Bool
   latest k = endsAt (takenOf k s) (getD (s .last) k never)
 
+  -- an empty number is not asked
+  abbrev ifUsed : (ℕ → Bool) → ℕ → Bool
+  ifUsed ok k = cond (inUse (s .table) k) (ok k) true
+
   module _ (ok : IsAccepted (s .table)) where
-    row-tests : (k : ℕ) → k < length (s .table .rows) → heldTest (s .table) limits (s .last) (sending (s .wire) ++ (s .a ++ s .b)) k ≡ (few k && (spread k && latest k))
+    row-tests : (k : ℕ) → k < length (s .table .rows) → ifUsed (heldTest (s .table) limits (s .last) (sending (s .wire) ++ (s .a ++ s .b))) k ≡ (ifUsed few k && (ifUsed spread k && ifUsed latest k))
     unfolding heldTest instantsTest takenOf
-    row-tests k h =
-        let in-use : InUse (s .table) k = record { below = h } in
-        rw (right k in-use, count-same (length (takenOf k s)) k in-use) refl
+    row-tests k h = go (inUse (s .table) k) refl
       where
         count-same : (n k : ℕ) → InUse (s .table) k → inLimit n (periodOf (rowAt (s .table) k)) (residence (s .table) (rowAt (s .table) k)) ≡ leb n (mostOf (s .table) (rowAt (s .table) k))
         count-same zero k u = sym (le-leb 0 (mostOf (s .table) (rowAt (s .table) k)) (omega arith))
         count-same (suc n) k u = law.most-periods (s .table) ok k u n
 
+        go : (b : Bool) → inUse (s .table) k ≡ b → ifUsed (heldTest (s .table) limits (s .last) (sending (s .wire) ++ (s .a ++ s .b))) k ≡ (ifUsed few k && (ifUsed spread k && ifUsed latest k))
+        go true e = let u = table.is-used (s .table) k e in rw (e, right k u, count-same (length (takenOf k s)) k u) refl
+        go false e = rw e refl
+
     rows-tests : rowsTest limits s ≡ (rowsTaken s && (waitingTest limits s && (heldSound s && (apartSound s && latestSound s))))
     unfolding rowsTest heldSound apartSound latestSound
     rows-tests =
-        rw (up-to-same (length (s .table .rows)) (heldTest (s .table) limits (s .last) (sending (s .wire) ++ (s .a ++ s .b))) (λ k. few k && (spread k && latest k)) row-tests, up-to-both (length (s .table .rows)) few (λ k. spread k && latest k), up-to-both (length (s .table .rows)) spread latest)
+        rw (up-to-same (length (s .table .rows)) (ifUsed (heldTest (s .table) limits (s .last) (sending (s .wire) ++ (s .a ++ s .b)))) (λ k. ifUsed few k && (ifUsed spread k && ifUsed latest k)) row-tests, up-to-both (length (s .table .rows)) (ifUsed few) (λ k. ifUsed spread k && ifUsed latest k), up-to-both (length (s .table .rows)) (ifUsed spread) (ifUsed latest))
         refl
 
     rows-hold : rowsTest limits s ≡ true → (rowsTaken s ≡ true) × (waitingTest limits s ≡ true) × (heldSound s ≡ true) × (apartSound s ≡ true) × (latestSound s ≡ true)
@@ -331,18 +347,18 @@ module _ (s : State) (limits : List ℕ) (right : Right (s .table) limits) where
       let f = of-clauses c in
       record { numbers = rw (c .clock, c .credit-a, c .credit-b) refl; others = others-pass f; rows = rows-tests (is-accepted s c) ∙ rw (c .rows, queues-pass f, c .held, c .apart, c .latest) refl }
 
-  passed : tableSound s ≡ true → bestSound s ≡ true → Passes limits s → sound s ≡ true
+  passed : tableSound s ≡ true → countSound s ≡ true → boundsSound s ≡ true → bestSound s ≡ true → Passes limits s → sound s ≡ true
   unfolding sound
-  passed t b p =
+  passed t k d b p =
       let n = numbers-hold (p .numbers) in
       let r = rows-hold (table-accepted s t) (p .rows) in
       let f = of-frames (p .others) (r .1) in
-      rw (t, n .0, n .1, n .2, b, names-hold f, queues-hold f, sizes-hold f, left-holds f, taken-hold f, r .0, r .2, r .3, r .4, young-hold f) refl
+      rw (t, k, d, n .0, n .1, n .2, b, names-hold f, queues-hold f, sizes-hold f, left-holds f, taken-hold f, r .0, r .2, r .3, r .4, young-hold f) refl
 
   -- a record that fails a test is broken
   pub broken : (Passes limits s → ⊥) → false ≡ sound s
   broken fails = same-test false (sound s) (λ e. absurd (false≢true e)) (λ e. absurd (fails (passes e)))
 
   -- of a record that passes the others, the test of its rows decides
-  pub by-rows : tableSound s ≡ true → bestSound s ≡ true → numbersTest s ≡ true → othersTest limits s ≡ true → rowsTest limits s ≡ sound s
-  by-rows t b n f = same-test (rowsTest limits s) (sound s) (λ r. passed t b record { numbers = n; others = f; rows = r }) (λ e. passes e .rows)
+  pub by-rows : tableSound s ≡ true → countSound s ≡ true → boundsSound s ≡ true → bestSound s ≡ true → numbersTest s ≡ true → othersTest limits s ≡ true → rowsTest limits s ≡ sound s
+  by-rows t k d b n f = same-test (rowsTest limits s) (sound s) (λ r. passed t k d b record { numbers = n; others = f; rows = r }) (λ e. passes e .rows)

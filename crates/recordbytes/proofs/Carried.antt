@@ -1,24 +1,28 @@
 -- A port that a record can hold is one that it can hold after a call: the parts find their places, and every number fits its field.
 use Prim.Native.Nat.{ℕ, zero, suc, _≤_, _<_, _^_}
+use mathlib.Core.Bool.{true}
 use mathlib.Core.List.{List, [], _∷_, _++_}
+use mathlib.Core.Path.{_≡_, _∙_, ap}
 use native.Mathlib.Omega.{arith}
-use lib.ListN.{length, set, length-append, length-set}
+use lib.ListN.{length, set, length-append}
 use lib.Signed.{mag}
 use mir.Val.{Val}
 use denote.Laws.{Is}
 use denote.Struct.Declared as struct
 use denote.Enum.Declared as enum
 use Rattle.table.specs.Limits.{classPlaces}
+use Rattle.table.specs.Rows.{isThere, rowAt}
 use Rattle.machine.specs.declared.Frame.{Frame}
 use Rattle.machine.specs.declared.Change.{Change}
 use Rattle.machine.specs.declared.Change.the-variants.{None, LeftA, LeftB, LeftBest, JoinedA, JoinedB, JoinedBest}
 use Rattle.machine.specs.declared.Effect.{Effect}
 use Rattle.machine.specs.Limits.{bestPlaces}
-use Rattle.machine.specs.State.{Instant, at, State, Placed}
+use Rattle.machine.specs.State.{Instant, at, instantsFor, State, Placed}
 use Rattle.machine.specs.Time.{behindHead}
 use Rattle.machine.specs.Effects.{changedBy, carriedOut, Room}
 use Rattle.machine.proofs.Change as change
 use Rattle.machine.proofs.Effect as effect
+use Rattle.machine.proofs.Instants.{for-set}
 use Rattle.words.specs.Words.{Every, Word}
 use Rattle.recordbytes.specs.Fits.{FrameFits, InstantFits, WireFits, Numbered, Fits}
 use Rattle.recordbytes.proofs.Lists.{every-append}
@@ -83,31 +87,34 @@ module _ (s : State) (fits : Fits s) where
   abbrev n : Numbered s
   n = fits .numbered
 
+  other-placed : (k : ℕ) (x : Instant) → k < length (s .last) → isThere (rowAt (s .table) k) ≡ true → instantsFor (s .table .rows) (set (s .last) k x) ≡ set (s .last) k x
+  other-placed k x h e = for-set (s .table .rows) (s .last) k x e h ∙ ap (λ (ls : List Instant). set ls k x) (p .last)
+
   changed-placed : (c : Change) → Room c s → Placed (changedBy c s)
   changed-placed None r = p
-  changed-placed LeftA r = record { rows = p .rows; a = behind-few (s .a) classPlaces (p .a); b = p .b; best = p .best; last = p .last }
-  changed-placed LeftB r = record { rows = p .rows; a = p .a; b = behind-few (s .b) classPlaces (p .b); best = p .best; last = p .last }
-  changed-placed LeftBest r = record { rows = p .rows; a = p .a; b = p .b; best = behind-few (s .best) bestPlaces (p .best); last = p .last }
-  changed-placed (JoinedA f) r = record { rows = p .rows; a = one-more (s .a) f classPlaces (r .0); b = p .b; best = p .best; last = rw length-set (p .last) }
-  changed-placed (JoinedB f) r = record { rows = p .rows; a = p .a; b = one-more (s .b) f classPlaces (r .0); best = p .best; last = rw length-set (p .last) }
-  changed-placed (JoinedBest f) r = record { rows = p .rows; a = p .a; b = p .b; best = one-more (s .best) f bestPlaces r; last = p .last }
+  changed-placed LeftA r = record { rows = p .rows; bounds = p .bounds; a = behind-few (s .a) classPlaces (p .a); b = p .b; best = p .best; last = p .last }
+  changed-placed LeftB r = record { rows = p .rows; bounds = p .bounds; a = p .a; b = behind-few (s .b) classPlaces (p .b); best = p .best; last = p .last }
+  changed-placed LeftBest r = record { rows = p .rows; bounds = p .bounds; a = p .a; b = p .b; best = behind-few (s .best) bestPlaces (p .best); last = p .last }
+  changed-placed (JoinedA f) r = record { rows = p .rows; bounds = p .bounds; a = one-more (s .a) f classPlaces (r .0); b = p .b; best = p .best; last = other-placed (f .source) (at (f .taken)) (r .1 .1) (r .1 .2) }
+  changed-placed (JoinedB f) r = record { rows = p .rows; bounds = p .bounds; a = p .a; b = one-more (s .b) f classPlaces (r .0); best = p .best; last = other-placed (f .source) (at (f .taken)) (r .1 .1) (r .1 .2) }
+  changed-placed (JoinedBest f) r = record { rows = p .rows; bounds = p .bounds; a = p .a; b = p .b; best = one-more (s .best) f bestPlaces r; last = p .last }
 
   changed-numbered : (c : Change) → ChangeFits c → Numbered (changedBy c s)
   changed-numbered None f = n
-  changed-numbered LeftA f = record { header = n .header; rows = n .rows; clock = n .clock; credita = n .credita; creditb = n .creditb; a = behind-fits (s .a) (n .a); b = n .b; best = n .best; last = n .last; wire = n .wire }
-  changed-numbered LeftB f = record { header = n .header; rows = n .rows; clock = n .clock; credita = n .credita; creditb = n .creditb; a = n .a; b = behind-fits (s .b) (n .b); best = n .best; last = n .last; wire = n .wire }
-  changed-numbered LeftBest f = record { header = n .header; rows = n .rows; clock = n .clock; credita = n .credita; creditb = n .creditb; a = n .a; b = n .b; best = behind-fits (s .best) (n .best); last = n .last; wire = n .wire }
+  changed-numbered LeftA f = record { header = n .header; rows = n .rows; bounds = n .bounds; clock = n .clock; credita = n .credita; creditb = n .creditb; a = behind-fits (s .a) (n .a); b = n .b; best = n .best; last = n .last; wire = n .wire }
+  changed-numbered LeftB f = record { header = n .header; rows = n .rows; bounds = n .bounds; clock = n .clock; credita = n .credita; creditb = n .creditb; a = n .a; b = behind-fits (s .b) (n .b); best = n .best; last = n .last; wire = n .wire }
+  changed-numbered LeftBest f = record { header = n .header; rows = n .rows; bounds = n .bounds; clock = n .clock; credita = n .credita; creditb = n .creditb; a = n .a; b = n .b; best = behind-fits (s .best) (n .best); last = n .last; wire = n .wire }
   changed-numbered (JoinedA x) f =
-      record { header = n .header; rows = n .rows; clock = n .clock; credita = n .credita; creditb = n .creditb; a = more-fits (s .a) x (n .a) f; b = n .b; best = n .best; last = other-fits (s .last) (x .source) (at (x .taken)) (n .last) (f .taken); wire = n .wire }
+      record { header = n .header; rows = n .rows; bounds = n .bounds; clock = n .clock; credita = n .credita; creditb = n .creditb; a = more-fits (s .a) x (n .a) f; b = n .b; best = n .best; last = other-fits (s .last) (x .source) (at (x .taken)) (n .last) (f .taken); wire = n .wire }
   changed-numbered (JoinedB x) f =
-      record { header = n .header; rows = n .rows; clock = n .clock; credita = n .credita; creditb = n .creditb; a = n .a; b = more-fits (s .b) x (n .b) f; best = n .best; last = other-fits (s .last) (x .source) (at (x .taken)) (n .last) (f .taken); wire = n .wire }
-  changed-numbered (JoinedBest x) f = record { header = n .header; rows = n .rows; clock = n .clock; credita = n .credita; creditb = n .creditb; a = n .a; b = n .b; best = more-fits (s .best) x (n .best) f; last = n .last; wire = n .wire }
+      record { header = n .header; rows = n .rows; bounds = n .bounds; clock = n .clock; credita = n .credita; creditb = n .creditb; a = n .a; b = more-fits (s .b) x (n .b) f; best = n .best; last = other-fits (s .last) (x .source) (at (x .taken)) (n .last) (f .taken); wire = n .wire }
+  changed-numbered (JoinedBest x) f = record { header = n .header; rows = n .rows; bounds = n .bounds; clock = n .clock; credita = n .credita; creditb = n .creditb; a = n .a; b = n .b; best = more-fits (s .best) x (n .best) f; last = n .last; wire = n .wire }
 
   pub carried-fits : (e : Effect) → EffectFits e → Room (e .change) s → Fits (carriedOut e s)
   carried-fits e f r =
       let q = changed-placed (e .change) r in
       let m = changed-numbered (e .change) (f .change) in
       record {
-        placed = record { rows = q .rows; a = q .a; b = q .b; best = q .best; last = q .last };
-        numbered = record { header = m .header; rows = m .rows; clock = f .clock; credita = f .credita; creditb = f .creditb; a = m .a; b = m .b; best = m .best; last = m .last; wire = f .wire };
+        placed = record { rows = q .rows; bounds = q .bounds; a = q .a; b = q .b; best = q .best; last = q .last };
+        numbered = record { header = m .header; rows = m .rows; bounds = m .bounds; clock = f .clock; credita = f .credita; creditb = f .creditb; a = m .a; b = m .b; best = m .best; last = m .last; wire = f .wire };
       }

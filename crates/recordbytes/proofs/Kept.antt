@@ -1,18 +1,24 @@
 -- Parts that stand behind what was written: written again they change nothing, and a frame or an instant more is all that is written.
 use Prim.Native.Nat.{ℕ, zero, suc, _+_, _*_, _≤_, _<_}
+use mathlib.Core.Bool.{true}
 use mathlib.Core.List.{List, [], _∷_, _++_}
-use mathlib.Core.Path.{_≡_, refl}
+use mathlib.Core.Path.{_≡_, refl, _∙_}
 use native.Mathlib.Omega.{arith}
 use lib.ListN.{length, take, set, length-append, length-set, length-take}
 use lib.Seq.{take-all}
+use Rattle.table.specs.declared.Row.{Row}
 use Rattle.table.specs.Limits.{mostRows}
+use Rattle.table.specs.Rows.{isThere, rowAt, Contents}
 use Rattle.machine.specs.declared.Frame.{Frame}
-use Rattle.machine.specs.State.{Instant}
-use Rattle.words.specs.Words.{wordAt, stored, spread, gathered}
-use Rattle.words.proofs.Laws.{Rest, rest-stored, rest-spread, held-rest, each-rest, HeldEach, each-same, spread-more, spread-set}
-use Rattle.recordbytes.specs.Layout.{lastStart, frameWidth, lastWidth, recordWidth, recordSize}
-use Rattle.recordbytes.specs.Record.{frameWords, lastWords, frameAt, queueAt, queueOver}
-use Rattle.recordbytes.proofs.Stands.{Queued, last-wide, queue-again}
+use Rattle.machine.specs.State.{Instant, State, Placed}
+use Rattle.words.specs.Words.{wordAt, stored, gathered}
+use Rattle.words.proofs.Laws.{Held, held-same, Rest, rest-stored, rest-spread, held-rest, each-rest, spread-more, spread-set}
+use Rattle.rowbytes.specs.Row.{rowWidth, rowWords}
+use Rattle.rowbytes.proofs.Laws.{row-wide}
+use Rattle.recordbytes.specs.Layout.{headStart, rowsStart, clockStart, lastStart, boundsStart, wireStart, frameWidth, lastWidth, boundWidth, recordWidth, recordSize}
+use Rattle.recordbytes.specs.Record.{headWords, frameWords, lastWords, marked, markedWords, boundWords, frameAt, queueAt, tableOver, queueOver, lastsOver, boundsOver}
+use Rattle.recordbytes.proofs.Marks.{last-length, marked-length, marked-set, mark-wide}
+use Rattle.recordbytes.proofs.Stands.{Queued, Stands, queue-again, lasts-again, bounds-again}
 
 module _ {n : ℕ} {s t : List ℕ} (r : Rest n s t) where
   -- a queue behind what was written is the same
@@ -33,18 +39,45 @@ module _ {n : ℕ} {s t : List ℕ} (r : Rest n s t) where
   queue-rest q k places m h l =
       rest-spread frameWords frameWidth (λ x. omega arith) (rest-stored r k (length q ∷ []) m h (omega arith)) (k + 1) (take places q) m (omega arith) (omega (arith, length-take places q))
 
+  -- behind a table, the last instants and the bounds
+  pub table-rest : (c : Contents) → n ≤ clockStart → Rest clockStart s (tableOver c t)
+  unfolding tableOver
+  table-rest c h =
+      rest-spread rowWords rowWidth row-wide (rest-stored r headStart (headWords c) clockStart h (omega arith)) rowsStart (take mostRows (c .rows)) clockStart (omega arith) (omega (arith, length-take mostRows (c .rows)))
+
+  pub lasts-rest : (rows : List Row) (last : List Instant) → n ≤ boundsStart → Rest boundsStart s (lastsOver rows last t)
+  lasts-rest rows last h = rest-spread markedWords lastWidth mark-wide r lastStart (take mostRows (marked rows last)) boundsStart h (omega (arith, length-take mostRows (marked rows last)))
+
+  pub bounds-rest : (bounds : List ℕ) → n ≤ wireStart → Rest wireStart s (boundsOver bounds t)
+  bounds-rest bounds h = rest-spread boundWords boundWidth (λ w. omega arith) r boundsStart (take mostRows bounds) wireStart h (omega (arith, length-take mostRows bounds))
+
   module _ (room : recordSize ≤ length s) where
+    pub words-kept : (k : ℕ) (ws : List ℕ) → n ≤ k → k + length ws ≤ recordWidth → Held s k ws → stored t k ws ≡ t
+    words-kept k ws h fits e = held-same t (r .bytes) k ws (omega (arith, r .size)) (held-rest r k ws h e)
+
     pub queue-kept : (q : List Frame) (k places : ℕ) → n ≤ k → length q ≤ places → k + 1 + frameWidth * places ≤ recordWidth → Queued q s k → queueOver k places q t ≡ t
     queue-kept q k places h few fits e = queue-again t (r .bytes) q k places few (omega (arith, r .size)) (queue-stays q k h e)
 
-    pub lasts-kept : (ls : List Instant) → n ≤ lastStart → length ls ≤ mostRows → HeldEach lastWords lastWidth s lastStart ls → spread lastWords lastWidth lastStart (take mostRows ls) t ≡ t
-    lasts-kept ls h few e =
-        rw (take-all mostRows ls few) (each-same lastWords lastWidth last-wide t (r .bytes) lastStart ls (omega (arith, r .size)) (each-rest lastWords lastWidth r lastStart ls h e))
+    -- the last instants, as they are and with another one, and the bounds
+    module _ (p : State) (few : Placed p) (st : Stands p s) where
+      abbrev marks : List (Row × Instant)
+      marks = marked (p .table .rows) (p .last)
 
-    pub lasts-noted : (ls : List Instant) (i : ℕ) (x : Instant) → n ≤ lastStart → i < length ls → length ls ≤ mostRows → HeldEach lastWords lastWidth s lastStart ls → spread lastWords lastWidth lastStart (take mostRows (set ls i x)) t ≡ stored t (lastStart + lastWidth * i) (lastWords x)
-    lasts-noted ls i x h l few e =
-        rw (take-all mostRows (set ls i x) (rw length-set few))
-        (spread-set lastWords lastWidth last-wide t (r .bytes) lastStart ls i x l (omega (arith, r .size)) (each-rest lastWords lastWidth r lastStart ls h e))
+      marks-few : length marks ≤ mostRows
+      marks-few = rw (marked-length (p .table .rows) (p .last)) (few .rows)
+
+      pub lasts-kept : n ≤ lastStart → lastsOver (p .table .rows) (p .last) t ≡ t
+      lasts-kept h = lasts-again t (r .bytes) p few (rw (r .size) room) (each-rest markedWords lastWidth r lastStart marks h (st .last))
+
+      pub lasts-noted : (i : ℕ) (x : Instant) → n ≤ lastStart → i < length (p .last) → isThere (rowAt (p .table) i) ≡ true → lastsOver (p .table .rows) (set (p .last) i x) t ≡ stored t (lastStart + lastWidth * i) (lastWords x)
+      lasts-noted i x h l e =
+          let m : Row × Instant = (rowAt (p .table) i, x) in
+          let below : i < length marks = rw (marked-length (p .table .rows) (p .last), ← last-length p few) l in
+          rw (marked-set (p .table .rows) (p .last) i x l, take-all mostRows (set marks i m) (rw length-set marks-few))
+          (spread-set markedWords lastWidth mark-wide t (r .bytes) lastStart marks i m below (omega (arith, marks-few, r .size)) (each-rest markedWords lastWidth r lastStart marks h (st .last)) ∙ rw e refl)
+
+      pub bounds-kept : n ≤ boundsStart → boundsOver (p .bounds) t ≡ t
+      bounds-kept h = bounds-again t (r .bytes) p few (rw (r .size) room) (each-rest boundWords boundWidth r boundsStart (p .bounds) h (st .bounds))
 
     -- a frame behind those that wait
     pub queue-joined : (q : List Frame) (k places : ℕ) (x : Frame) → n ≤ k → length q < places → k + 1 + frameWidth * places ≤ recordWidth → Queued q s k → queueOver k places (q ++ x ∷ []) t ≡ stored (stored t k ((length q + 1) ∷ [])) (k + 1 + frameWidth * length q) (frameWords x)

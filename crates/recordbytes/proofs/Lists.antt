@@ -3,15 +3,16 @@ use Prim.Native.Nat.{ℕ, zero, suc, _+_, _*_, _<_}
 use mathlib.Core.Bool.{Bool, true, false, _&&_}
 use mathlib.Core.Bool as bool
 use mathlib.Core.List.{List, [], _∷_, _++_, map}
-use mathlib.Core.Path.{_≡_, refl, sym, _∙_}
+use mathlib.Core.Path.{_≡_, refl, sym, _∙_, ap}
 use native.Mathlib.Numerals.{add-one}
 use native.Mathlib.Omega.{arith}
-use lib.ListN.{length, take, replicate}
+use lib.ListN.{length, getD, take, replicate}
 use Rattle.table.proofs.Laws.{and-true}
 use Rattle.machine.specs.Record.{allTrue}
 use Rattle.machine.proofs.FromSound.{Each}
 use Rattle.words.specs.Words.{Every, gathered}
 use Rattle.words.proofs.Laws.{Held, HeldEach}
+use Rattle.rowbytes.proofs.Laws.{both}
 use Rattle.recordbytes.specs.Record.{each}
 
 module _ {X : Type 0} (P : X → Type 0) where
@@ -37,9 +38,6 @@ pub true-each : (bs : List Bool) → Each bs → allTrue bs ≡ true
 true-each [] h = refl
 true-each (b ∷ bs) h = rw (h .0) (true-each bs (h .1))
 
-pub both : {x y : Bool} → x ≡ true → y ≡ true → x && y ≡ true
-both e f = rw e f
-
 -- ---- tests of n things
 -- one thing more
 each-suc : (ok : ℕ → Bool) (size k i : ℕ) → each ok size k (suc i) ≡ (each ok size k i && ok (k + size * i))
@@ -64,6 +62,13 @@ each-fails ok size k zero (suc n) h e = let z : k + size * 0 ≡ k = omega arith
 each-fails ok size k (suc i) (suc n) h e =
     let z : k + size * suc i ≡ k + size + size * i = omega arith in
     rw (each-fails ok size (k + size) i n (omega arith) (rw z at e)) (bool.and-false (ok k))
+
+-- the thing of number i
+pub gathered-at : {X : Type 0} (f : ℕ → X) (size k n i : ℕ) (d : X) → i < n → getD (gathered f size k n) i d ≡ f (k + size * i)
+unfolding gathered
+gathered-at f size k zero i d h = absurd (omega arith)
+gathered-at f size k (suc n) zero d h = let z : k + size * 0 ≡ k = omega arith in rw z refl
+gathered-at f size k (suc n) (suc i) d h = let z : k + size + size * i ≡ k + size * suc i = omega arith in gathered-at f size (k + size) n i d (omega arith) ∙ ap f z
 
 module _ {X : Type 0} (f : X → List ℕ) (size : ℕ) (s : List ℕ) (ok : ℕ → Bool) where
   -- things that are held pass

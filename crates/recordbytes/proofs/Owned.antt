@@ -14,22 +14,26 @@ use Prim.Native.Nat.{ℕ, _-_}
 use Rattle.table.specs.declared.Pace.{Pace}
 use Rattle.table.specs.declared.Pace.the-variants.{Period, Rated}
 use Rattle.table.specs.declared.Row.{Row}
+use Rattle.table.specs.declared.Table.{Table}
 use Rattle.table.specs.Rows.{noRow, rowsOf}
 use Rattle.machine.specs.declared.Frame.{Frame}
 use Rattle.machine.specs.declared.Wire.{Wire}
 use Rattle.machine.specs.declared.Wire.the-variants.{Free, Sending}
 use Rattle.machine.specs.declared.Last.{Last}
 use Rattle.machine.specs.declared.Port.{Port}
-use Rattle.machine.specs.State.{never, at, noFrame, waiting, instantOf, instantsOf, view}
+use Rattle.machine.specs.State.{never, at, noFrame, waiting, instantOf, instantsOf, keptOf, view}
 use Rattle.table.proofs.Pace as pace
 use Rattle.table.proofs.Row as row
+use Rattle.table.proofs.Table as table
 use Rattle.machine.proofs.Frame as frame
 use Rattle.machine.proofs.Wire as wire
 use Rattle.machine.proofs.Last as last
 use Rattle.machine.proofs.Port as port
 use Rattle.words.specs.Words.{Every, Word}
-use Rattle.recordbytes.specs.Fits.{PaceFits, RowFits, FrameFits, InstantFits, WireFits, Numbered}
+use Rattle.rowbytes.specs.Fits.{PaceFits, RowFits}
+use Rattle.recordbytes.specs.Fits.{HeaderFits, FrameFits, InstantFits, WireFits, Numbered}
 use Rattle.recordbytes.proofs.Lists.{every-append, every-take, every-same, every-map}
+use Rattle.recordbytes.proofs.Marks.{for-fits}
 
 pace-owned : (p : Pace) (vs : List Val) → Is (enum.row pace.the-type) p vs → PaceFits p
 pace-owned (Period p) vs e = e .1 .1 .1 .1 .0 .1
@@ -41,7 +45,7 @@ row-owned r vs e = record { payload = e .1 .1 .1 .0 .1; pace = pace-owned (r .pa
 pub frame-owned : (x : Frame) (vs : List Val) → Is (struct.row frame.the-type) x vs → FrameFits x
 frame-owned x vs e = record { source = e .1 .1 .0 .1; size = e .1 .1 .1 .0 .1; taken = e .1 .1 .1 .1 .0 .1 }
 
-abbrev LastFits : Last → Type 0
+abbrev pub LastFits : Last → Type 0
 LastFits l = Word (l .taken)
 
 last-owned : (l : Last) (vs : List Val) → Is (struct.row last.the-type) l vs → LastFits l
@@ -51,7 +55,7 @@ pub wire-owned : (w : Wire) (vs : List Val) → Is (enum.row wire.the-type) w vs
 wire-owned Free vs e = tt
 wire-owned (Sending x left) vs e = (frame-owned x _ (e .1 .1 .1 .1 .0), e .1 .1 .1 .1 .1 .0 .1)
 
-every-owned : {X D : Type 0} (to : X → D) (own : D → List Val → Fml) (P : X → Type 0) → ((x : X) (vs : List Val) → shadow (own (to x) vs) → P x) → (xs : List X) (us : List Val) → shadow (each D own (map to xs) us) → Every P xs
+pub every-owned : {X D : Type 0} (to : X → D) (own : D → List Val → Fml) (P : X → Type 0) → ((x : X) (vs : List Val) → shadow (own (to x) vs) → P x) → (xs : List X) (us : List Val) → shadow (each D own (map to xs) us) → Every P xs
 every-owned to own P f [] us e = tt
 every-owned to own P f (x ∷ xs) [] e = absurd e
 every-owned to own P f (x ∷ xs) (u ∷ us) e = (f x (u ∷ []) (e .0), every-owned to own P f xs us (e .1))
@@ -67,26 +71,48 @@ instant-fits l h = go (l .known)
     go true = h
     go false = tt
 
-instants-fit : (n : ℕ) (ls : List Last) → Every LastFits ls → Every InstantFits (instantsOf n ls)
-instants-fit n ls f = every-append InstantFits (map instantOf (take n ls)) _ (every-map InstantFits instantOf LastFits instant-fits (take n ls) (every-take LastFits n ls f)) (every-same InstantFits (n - length ls) never tt)
+pub instants-fit : (rs : List Row) (ls : List Last) → Every LastFits ls → Every InstantFits (instantsOf rs ls)
+instants-fit rs ls f = for-fits rs (map instantOf ls) (every-map InstantFits instantOf LastFits instant-fits ls f)
+
+pub kept-fits : (n : ℕ) (ws : List ℕ) → Every Word ws → Every Word (keptOf n ws)
+unfolding keptOf
+kept-fits n ws f = every-append Word (take n ws) _ (every-take Word n ws f) (every-same Word (n - length ws) 0 (omega arith))
+
+-- a table, and the bounds of some numbers
+pub record TableFits (t : Table) : Type 0 where
+  pub header : HeaderFits (t .header)
+  pub rows : Every RowFits (rowsOf t)
+
+pub table-owned : (t : Table) (vs : List Val) → Is (struct.row table.the-type) t vs → TableFits t
+unfolding rowsOf
+table-owned t vs e =
+    let h = e .1 .1 in
+    let rows = every-owned _ _ RowFits row-owned (t .rows) _ (h .1 .1 .0 .1 .1) in
+    record {
+      header = record { idlea = h .0 .1 .1 .0 .1; idleb = h .0 .1 .1 .1 .0 .1; payload = h .0 .1 .1 .1 .1 .0 .1 };
+      rows = every-append RowFits (take (t .count) (t .rows)) _ (every-take RowFits (t .count) (t .rows) rows) (every-same RowFits (t .count - length (t .rows)) noRow (record { payload = omega arith; pace = omega arith; deadline = omega arith }));
+    }
 
 -- every port that a program holds
+pub lasts-owned : (p : Port) (vs : List Val) → Is (struct.row port.the-type) p vs → Every LastFits (p .last)
+lasts-owned p vs e = every-owned _ _ LastFits last-owned (p .last) _ (e .1 .1 .1 .1 .1 .1 .1 .1 .1 .0 .1 .1)
+
 pub owned-numbered : (p : Port) (vs : List Val) → Is (struct.row port.the-type) p vs → Numbered (view p)
-unfolding view rowsOf
+unfolding view
 owned-numbered p vs e =
-    let t = e .1 .1 .0 .1 .1 in
+    let t = table-owned (p .table) _ (e .1 .1 .0) in
     let r = e .1 .1 .1 in
     let q = r .1 .1 .1 in
-    let rows = every-owned _ _ RowFits row-owned (p .table .rows) _ (t .1 .1 .0 .1 .1) in
     record {
-      header = record { idlea = t .0 .1 .1 .0 .1; idleb = t .0 .1 .1 .1 .0 .1; payload = t .0 .1 .1 .1 .1 .0 .1 };
-      rows = every-append RowFits (take (p .table .count) (p .table .rows)) _ (every-take RowFits (p .table .count) (p .table .rows) rows) (every-same RowFits (p .table .count - length (p .table .rows)) noRow (record { payload = omega arith; pace = omega arith; deadline = omega arith }));
+      header = t .header;
+      rows = t .rows;
+      bounds = kept-fits (p .table .count) (p .bounds) (every-owned _ _ Word (λ w vs e. e .1) (p .bounds) _ (q .1 .1 .1 .1 .0 .1 .1));
       clock = r .0 .1;
       credita = r .1 .0 .1;
       creditb = r .1 .1 .0 .1;
       a = waiting-fits (p .a .count) (p .a .frames) (every-owned _ _ FrameFits frame-owned (p .a .frames) _ (q .0 .1 .1 .1 .0 .1 .1));
       b = waiting-fits (p .b .count) (p .b .frames) (every-owned _ _ FrameFits frame-owned (p .b .frames) _ (q .1 .0 .1 .1 .1 .0 .1 .1));
       best = waiting-fits (p .best .count) (p .best .frames) (every-owned _ _ FrameFits frame-owned (p .best .frames) _ (q .1 .1 .0 .1 .1 .1 .0 .1 .1));
-      last = instants-fit (p .table .count) (p .last) (every-owned _ _ LastFits last-owned (p .last) _ (q .1 .1 .1 .0 .1 .1));
-      wire = wire-owned (p .wire) _ (q .1 .1 .1 .1 .0);
+      last = instants-fit (rowsOf (p .table)) (p .last) (lasts-owned p vs e);
+      wire = wire-owned (p .wire) _ (q .1 .1 .1 .1 .1 .0);
     }

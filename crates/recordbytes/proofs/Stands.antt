@@ -1,5 +1,5 @@
 -- A port's parts stand in bytes, each at its place: so they do in what is written, and then they are what is read.
-use Prim.Native.Nat.{ℕ, _+_, _*_, _≤_}
+use Prim.Native.Nat.{ℕ, zero, suc, _+_, _*_, _≤_}
 use mathlib.Core.Bool.{true}
 use mathlib.Core.List.{List, [], _∷_}
 use mathlib.Core.Path.{_≡_, refl, sym, _∙_}
@@ -8,8 +8,6 @@ use lib.Dec.{leb, eqb}
 use lib.ListN.{length, take}
 use lib.Seq.{take-all}
 use borrow.Author.Tests.{le-leb}
-use Rattle.table.specs.declared.Pace.{Pace}
-use Rattle.table.specs.declared.Pace.the-variants.{Period, Rated}
 use Rattle.table.specs.declared.Row.{Row}
 use Rattle.table.specs.Limits.{mostRows}
 use Rattle.table.proofs.Laws.{and-true}
@@ -17,15 +15,19 @@ use Rattle.machine.specs.declared.Frame.{Frame}
 use Rattle.machine.specs.declared.Wire.{Wire}
 use Rattle.machine.specs.declared.Wire.the-variants.{Free, Sending}
 use Rattle.machine.specs.Limits.{classPlaces, bestPlaces}
-use Rattle.machine.specs.State.{Instant, never, at, State, Placed}
-use Rattle.words.specs.Words.{Every, Word, Bytes, wordAt, stored, spread}
+use Rattle.machine.specs.State.{Instant, instantsFor, State, Placed}
+use Rattle.words.specs.Words.{Every, Word, Bytes, wordAt, stored, spread, gathered}
 use Rattle.words.proofs.Laws.{stored-length, Held, held-stored, held-same, word-small, Agree, agree-more, stored-agrees, held-agrees, spread-length, spread-agrees, HeldEach, each-agrees, spread-held, each-same, gathered-back, gathered-length, gathered-every}
-use Rattle.recordbytes.specs.Layout.{version, headStart, rowsStart, clockStart, queueaStart, queuebStart, bestStart, lastStart, wireStart, idleaPlace, idlebPlace, payloadPlace, countPlace, paceWidth, rowWidth, frameWidth, lastWidth, wireWidth, recordSize}
-use Rattle.recordbytes.specs.Record.{headWords, paceWords, rowWords, numberWords, frameWords, lastWords, wireWords, tableOver, queueOver, recordOver, rowAt, frameAt, instantAt, queueAt, stateOf, headFits, rowFits, frameFits, lastFits, each, queueFits, recordTests, isRecord}
-use Rattle.recordbytes.specs.Fits.{RowFits, FrameFits, InstantFits, Numbered, Fits}
-use Rattle.recordbytes.proofs.Lists.{true-each, both, held-each, each-held}
+use Rattle.rowbytes.specs.Row.{rowWidth, rowWords, rowAt, rowFits}
+use Rattle.rowbytes.specs.Fits.{RowFits}
+use Rattle.rowbytes.proofs.Laws.{both, bits-back, bits-fits, bits-same, row-wide, row-words, row-back, row-fits, row-same, row-small}
+use Rattle.recordbytes.specs.Layout.{version, headStart, rowsStart, clockStart, queueaStart, queuebStart, bestStart, lastStart, boundsStart, wireStart, idleaPlace, idlebPlace, payloadPlace, countPlace, frameWidth, lastWidth, boundWidth, wireWidth, recordSize}
+use Rattle.recordbytes.specs.Record.{headWords, numberWords, frameWords, marked, markedWords, boundWords, wireWords, tableOver, queueOver, lastsOver, boundsOver, recordOver, frameAt, instantAt, queueAt, rowsAt, stateOf, headFits, frameFits, markFits, each, queueFits, recordTests, isRecord}
+use Rattle.recordbytes.specs.Fits.{FrameFits, InstantFits, Numbered, Fits}
+use Rattle.recordbytes.proofs.Lists.{true-each, held-each, each-held}
 use Rattle.recordbytes.proofs.Tested.{tests, head}
 use Rattle.recordbytes.proofs.Fields as field
+use Rattle.recordbytes.proofs.Marks.{MarkFits, last-length, marked-length, marked-fits, for-fits, mark-wide, mark-words, marks-back, marks-fit, marks-held}
 
 -- a queue: how many wait, and their frames
 pub record Queued (q : List Frame) (s : List ℕ) (k : ℕ) : Type 0 where
@@ -39,21 +41,11 @@ pub record Stands (p : State) (s : List ℕ) : Type 0 where
   pub a : Queued (p .a) s queueaStart
   pub b : Queued (p .b) s queuebStart
   pub best : Queued (p .best) s bestStart
-  pub last : HeldEach lastWords lastWidth s lastStart (p .last)
+  pub last : HeldEach markedWords lastWidth s lastStart (marked (p .table .rows) (p .last))
+  pub bounds : HeldEach boundWords boundWidth s boundsStart (p .bounds)
   pub wire : Held s wireStart (wireWords (p .wire))
 
--- how many words they are
-pace-wide : (p : Pace) → length (paceWords p) ≤ paceWidth
-pace-wide (Period p) = omega arith
-pace-wide (Rated samples rate) = omega arith
-
-pub row-wide : (r : Row) → length (rowWords r) ≤ rowWidth
-row-wide r = omega (arith, pace-wide (r .pace))
-
-pub last-wide : (i : Instant) → length (lastWords i) ≤ lastWidth
-last-wide never = omega arith
-last-wide (at k) = omega arith
-
+-- how many words it has
 pub wire-wide : (w : Wire) → length (wireWords w) ≤ wireWidth
 wire-wide Free = omega arith
 wire-wide (Sending f left) = omega arith
@@ -107,16 +99,29 @@ module _ (p : State) (s : List ℕ) (fits : Fits p) (room : recordSize ≤ lengt
   b6 = queueOver bestStart bestPlaces (p .best) b5
 
   abbrev b7 : List ℕ
-  b7 = spread lastWords lastWidth lastStart (take mostRows (p .last)) b6
+  b7 = lastsOver (p .table .rows) (p .last) b6
 
   abbrev b8 : List ℕ
-  b8 = stored b7 wireStart (wireWords (p .wire))
+  b8 = boundsOver (p .bounds) b7
+
+  abbrev b9 : List ℕ
+  b9 = stored b8 wireStart (wireWords (p .wire))
+
+  -- the numbers with their last instants
+  abbrev marks : List (Row × Instant)
+  marks = marked (p .table .rows) (p .last)
+
+  marks-few : length marks ≤ mostRows
+  marks-few = rw (marked-length (p .table .rows) (p .last)) (fits .placed .rows)
 
   rows-all : take mostRows (p .table .rows) ≡ p .table .rows
   rows-all = take-all mostRows (p .table .rows) (fits .placed .rows)
 
-  last-all : take mostRows (p .last) ≡ p .last
-  last-all = take-all mostRows (p .last) (omega (arith, fits .placed .rows, fits .placed .last))
+  marks-all : take mostRows marks ≡ marks
+  marks-all = take-all mostRows marks (omega (arith, marks-few))
+
+  bounds-all : take mostRows (p .bounds) ≡ p .bounds
+  bounds-all = take-all mostRows (p .bounds) (omega (arith, fits .placed .rows, fits .placed .bounds))
 
   l1 : length b1 ≡ length s
   l1 = stored-length s headStart (headWords (p .table))
@@ -137,28 +142,34 @@ module _ (p : State) (s : List ℕ) (fits : Fits p) (room : recordSize ≤ lengt
   l6 = queue-length bestStart bestPlaces (p .best) b5 ∙ l5
 
   l7 : length b7 ≡ length s
-  l7 = spread-length lastWords lastWidth lastStart (take mostRows (p .last)) b6 ∙ l6
+  l7 = spread-length markedWords lastWidth lastStart (take mostRows marks) b6 ∙ l6
+
+  l8 : length b8 ≡ length s
+  l8 = spread-length boundWords boundWidth boundsStart (take mostRows (p .bounds)) b7 ∙ l7
 
   -- what stands before a part is left alone by it and by those behind it
-  a7 : Agree wireStart b7 b8
-  a7 = stored-agrees b7 wireStart (wireWords (p .wire))
+  a8 : Agree wireStart b8 b9
+  a8 = stored-agrees b8 wireStart (wireWords (p .wire))
 
-  a6 : Agree lastStart b6 b8
-  a6 = agree-more (omega arith) (spread-agrees lastWords lastWidth lastStart (take mostRows (p .last)) b6) a7
+  a7 : Agree boundsStart b7 b9
+  a7 = agree-more (omega arith) (spread-agrees boundWords boundWidth boundsStart (take mostRows (p .bounds)) b7) a8
 
-  a5 : Agree bestStart b5 b8
+  a6 : Agree lastStart b6 b9
+  a6 = agree-more (omega arith) (spread-agrees markedWords lastWidth lastStart (take mostRows marks) b6) a7
+
+  a5 : Agree bestStart b5 b9
   a5 = agree-more (omega arith) (queue-agrees (p .best) bestPlaces (fits .placed .best) b5 bestStart) a6
 
-  a4 : Agree queuebStart b4 b8
+  a4 : Agree queuebStart b4 b9
   a4 = agree-more (omega arith) (queue-agrees (p .b) classPlaces (fits .placed .b) b4 queuebStart) a5
 
-  a3 : Agree queueaStart b3 b8
+  a3 : Agree queueaStart b3 b9
   a3 = agree-more (omega arith) (queue-agrees (p .a) classPlaces (fits .placed .a) b3 queueaStart) a4
 
-  a2 : Agree clockStart b2 b8
+  a2 : Agree clockStart b2 b9
   a2 = agree-more (omega arith) (stored-agrees b2 clockStart (numberWords p)) a3
 
-  a1 : Agree rowsStart b1 b8
+  a1 : Agree rowsStart b1 b9
   a1 = agree-more (omega arith) (spread-agrees rowWords rowWidth rowsStart (take mostRows (p .table .rows)) b1) a2
 
   head-words : Every Word (headWords (p .table))
@@ -171,25 +182,31 @@ module _ (p : State) (s : List ℕ) (fits : Fits p) (room : recordSize ≤ lengt
 
   rows-stand : HeldEach rowWords rowWidth b2 rowsStart (p .table .rows)
   rows-stand =
-      rw rows-all (spread-held rowWords rowWidth row-wide RowFits (field.row-words b1) rowsStart (p .table .rows) b1 (fits .numbered .rows) (omega (arith, l1, fits .placed .rows)))
+      rw rows-all (spread-held rowWords rowWidth row-wide RowFits (row-words b1) rowsStart (p .table .rows) b1 (fits .numbered .rows) (omega (arith, l1, fits .placed .rows)))
 
-  last-stand : HeldEach lastWords lastWidth b7 lastStart (p .last)
+  last-stand : HeldEach markedWords lastWidth b7 lastStart marks
   last-stand =
-      rw last-all
-      (spread-held lastWords lastWidth last-wide InstantFits (field.last-words b6) lastStart (p .last) b6 (fits .numbered .last) (omega (arith, l6, fits .placed .rows, fits .placed .last)))
+      rw marks-all
+      (spread-held markedWords lastWidth mark-wide MarkFits (mark-words b6) lastStart marks b6 (marked-fits (p .table .rows) (p .last) (fits .numbered .last)) (omega (arith, l6, marks-few)))
+
+  bounds-stand : HeldEach boundWords boundWidth b8 boundsStart (p .bounds)
+  bounds-stand =
+      rw bounds-all
+      (spread-held boundWords boundWidth (λ w. omega arith) Word (λ w h. (h, tt)) boundsStart (p .bounds) b7 (fits .numbered .bounds) (omega (arith, l7, fits .placed .rows, fits .placed .bounds)))
 
   pub written-stands : Stands p (recordOver p s)
   unfolding recordOver tableOver
   written-stands =
       record {
-        head = held-agrees rowsStart b1 b8 headStart (headWords (p .table)) (omega arith) a1 (held-stored s headStart (headWords (p .table)) head-words (omega arith));
-        rows = each-agrees rowWords rowWidth row-wide clockStart b2 b8 rowsStart (p .table .rows) (omega (arith, fits .placed .rows)) a2 rows-stand;
-        numbers = held-agrees queueaStart b3 b8 clockStart (numberWords p) (omega arith) a3 (held-stored b2 clockStart (numberWords p) number-words (omega (arith, l2)));
-        a = queue-later queuebStart b4 b8 (p .a) queueaStart (omega (arith, fits .placed .a)) a4 (queue-stands (p .a) classPlaces (fits .placed .a) b3 queueaStart (fits .numbered .a) (omega (arith, fits .placed .a)) (omega (arith, l3, fits .placed .a)));
-        b = queue-later bestStart b5 b8 (p .b) queuebStart (omega (arith, fits .placed .b)) a5 (queue-stands (p .b) classPlaces (fits .placed .b) b4 queuebStart (fits .numbered .b) (omega (arith, fits .placed .b)) (omega (arith, l4, fits .placed .b)));
-        best = queue-later lastStart b6 b8 (p .best) bestStart (omega (arith, fits .placed .best)) a6 (queue-stands (p .best) bestPlaces (fits .placed .best) b5 bestStart (fits .numbered .best) (omega (arith, fits .placed .best)) (omega (arith, l5, fits .placed .best)));
-        last = each-agrees lastWords lastWidth last-wide wireStart b7 b8 lastStart (p .last) (omega (arith, fits .placed .rows, fits .placed .last)) a7 last-stand;
-        wire = held-stored b7 wireStart (wireWords (p .wire)) (field.wire-words b7 (p .wire) (fits .numbered .wire)) (omega (arith, l7, wire-wide (p .wire)));
+        head = held-agrees rowsStart b1 b9 headStart (headWords (p .table)) (omega arith) a1 (held-stored s headStart (headWords (p .table)) head-words (omega arith));
+        rows = each-agrees rowWords rowWidth row-wide clockStart b2 b9 rowsStart (p .table .rows) (omega (arith, fits .placed .rows)) a2 rows-stand;
+        numbers = held-agrees queueaStart b3 b9 clockStart (numberWords p) (omega arith) a3 (held-stored b2 clockStart (numberWords p) number-words (omega (arith, l2)));
+        a = queue-later queuebStart b4 b9 (p .a) queueaStart (omega (arith, fits .placed .a)) a4 (queue-stands (p .a) classPlaces (fits .placed .a) b3 queueaStart (fits .numbered .a) (omega (arith, fits .placed .a)) (omega (arith, l3, fits .placed .a)));
+        b = queue-later bestStart b5 b9 (p .b) queuebStart (omega (arith, fits .placed .b)) a5 (queue-stands (p .b) classPlaces (fits .placed .b) b4 queuebStart (fits .numbered .b) (omega (arith, fits .placed .b)) (omega (arith, l4, fits .placed .b)));
+        best = queue-later lastStart b6 b9 (p .best) bestStart (omega (arith, fits .placed .best)) a6 (queue-stands (p .best) bestPlaces (fits .placed .best) b5 bestStart (fits .numbered .best) (omega (arith, fits .placed .best)) (omega (arith, l5, fits .placed .best)));
+        last = each-agrees markedWords lastWidth mark-wide boundsStart b7 b9 lastStart marks (omega (arith, marks-few)) a7 last-stand;
+        bounds = each-agrees boundWords boundWidth (λ w. omega arith) wireStart b8 b9 boundsStart (p .bounds) (omega (arith, fits .placed .rows, fits .placed .bounds)) a8 bounds-stand;
+        wire = held-stored b8 wireStart (wireWords (p .wire)) (field.wire-words b8 (p .wire) (fits .numbered .wire)) (omega (arith, l8, wire-wide (p .wire)));
       }
 
 -- ---- what stands is read
@@ -201,27 +218,33 @@ module _ (p : State) (s : List ℕ) (fits : Fits p) (st : Stands p s) where
   rows-count : wordAt s countPlace ≡ length (p .table .rows)
   rows-count = st .head .1 .1 .1 .1 .0
 
-  last-count : wordAt s countPlace ≡ length (p .last)
-  last-count = rows-count ∙ sym (fits .placed .last)
+  rows-read : rowsAt s ≡ p .table .rows
+  rows-read = rw (← rows-count) at (gathered-back rowWords rowWidth s (rowAt s) RowFits (row-back s) rowsStart (p .table .rows) (fits .numbered .rows) (st .rows))
+
+  bounds-read : gathered (wordAt s) boundWidth boundsStart (wordAt s countPlace) ≡ p .bounds
+  bounds-read =
+      rw (rows-count ∙ sym (fits .placed .bounds)) (gathered-back boundWords boundWidth s (wordAt s) Word (λ w k f h. h .0) boundsStart (p .bounds) (fits .numbered .bounds) (st .bounds))
+
+  last-read : instantsFor (p .table .rows) (gathered (instantAt s) lastWidth lastStart (wordAt s countPlace)) ≡ p .last
+  last-read = rw rows-count (marks-back s (p .table .rows) (p .last) lastStart (last-length p (fits .placed)) (fits .numbered .last) (st .last)) ∙ fits .placed .last
 
   pub stands-read : stateOf s ≡ p
   unfolding stateOf
   stands-read =
       let h = fits .numbered .header in
-      let rows = rw (← rows-count) at (gathered-back rowWords rowWidth s (rowAt s) RowFits (field.row-back s) rowsStart (p .table .rows) (fits .numbered .rows) (st .rows)) in
-      let last = rw (← last-count) at (gathered-back lastWords lastWidth s (instantAt s) InstantFits (field.last-back s) lastStart (p .last) (fits .numbered .last) (st .last)) in
       rw (
-        field.bits-back 32 (st .head .1 .0) (h .idlea),
-        field.bits-back 32 (st .head .1 .1 .0) (h .idleb),
-        field.bits-back 16 (st .head .1 .1 .1 .0) (h .payload),
-        rows,
+        bits-back 32 (st .head .1 .0) (h .idlea),
+        bits-back 32 (st .head .1 .1 .0) (h .idleb),
+        bits-back 16 (st .head .1 .1 .1 .0) (h .payload),
+        rows-read,
+        bounds-read,
         st .numbers .0,
         field.signed-back (p .credita) (st .numbers .1 .0) (fits .numbered .credita),
         field.signed-back (p .creditb) (st .numbers .1 .1 .0) (fits .numbered .creditb),
         queue-read (p .a) queueaStart (fits .numbered .a) (st .a),
         queue-read (p .b) queuebStart (fits .numbered .b) (st .b),
         queue-read (p .best) bestStart (fits .numbered .best) (st .best),
-        last,
+        last-read,
         field.wire-back s (p .wire) wireStart (fits .numbered .wire) (st .wire),
       )
       refl
@@ -238,13 +261,13 @@ module _ (p : State) (s : List ℕ) (fits : Fits p) (st : Stands p s) where
       let right : eqb (wordAt s headStart) version ≡ true = rw (st .head .0) refl in
       let few : leb (wordAt s countPlace) mostRows ≡ true = rw rows-count (le-leb (length (p .table .rows)) mostRows (fits .placed .rows)) in
       both (both right few)
-      (both (both (field.bits-fits 32 (st .head .1 .0) (h .idlea)) (field.bits-fits 32 (st .head .1 .1 .0) (h .idleb))) (field.bits-fits 16 (st .head .1 .1 .1 .0) (h .payload)))
+      (both (both (bits-fits 32 (st .head .1 .0) (h .idlea)) (bits-fits 32 (st .head .1 .1 .0) (h .idleb))) (bits-fits 16 (st .head .1 .1 .1 .0) (h .payload)))
 
   rows-fit : each (rowFits s) rowWidth rowsStart (wordAt s countPlace) ≡ true
-  rows-fit = rw rows-count (held-each rowWords rowWidth s (rowFits s) RowFits (field.row-fits s) rowsStart (p .table .rows) (fits .numbered .rows) (st .rows))
+  rows-fit = rw rows-count (held-each rowWords rowWidth s (rowFits s) RowFits (row-fits s) rowsStart (p .table .rows) (fits .numbered .rows) (st .rows))
 
-  last-fit : each (lastFits s) lastWidth lastStart (wordAt s countPlace) ≡ true
-  last-fit = rw last-count (held-each lastWords lastWidth s (lastFits s) InstantFits (field.last-fits s) lastStart (p .last) (fits .numbered .last) (st .last))
+  last-fit : each (markFits s) 1 0 (wordAt s countPlace) ≡ true
+  last-fit = marks-fit s 0 (wordAt s countPlace) (p .last) (last-length p (fits .placed) ∙ sym rows-count) (fits .numbered .last) (rw rows-read (st .last))
 
   pub stands-record : recordSize ≤ length s → isRecord s ≡ true
   unfolding isRecord
@@ -267,6 +290,12 @@ module _ (p : State) (s : List ℕ) (fits : Fits p) (st : Stands p s) where
       )
 
 -- ---- what stands, written again
+-- bounds are what stands
+words-held : (s : List ℕ) (k n : ℕ) → HeldEach boundWords boundWidth s k (gathered (wordAt s) boundWidth k n)
+unfolding gathered
+words-held s k zero = tt
+words-held s k (suc n) = ((refl, tt), words-held s (k + boundWidth) n)
+
 module _ (s : List ℕ) (b : Bytes s) where
   pub queue-again : (q : List Frame) (k places : ℕ) → length q ≤ places → 8 * (k + 1 + frameWidth * length q) ≤ length s → Queued q s k → queueOver k places q s ≡ s
   unfolding queueOver
@@ -279,6 +308,17 @@ module _ (s : List ℕ) (b : Bytes s) where
       rw (held-same s b headStart (headWords (p .table)) (omega arith) (st .head), take-all mostRows (p .table .rows) (few .rows))
       (each-same rowWords rowWidth row-wide s b rowsStart (p .table .rows) (omega (arith, few .rows)) (st .rows))
 
+  pub lasts-again : (p : State) → Placed p → recordSize ≤ length s → HeldEach markedWords lastWidth s lastStart (marked (p .table .rows) (p .last)) → lastsOver (p .table .rows) (p .last) s ≡ s
+  lasts-again p few room h =
+      let n = marked-length (p .table .rows) (p .last) in
+      rw (take-all mostRows (marked (p .table .rows) (p .last)) (omega (arith, few .rows, n)))
+      (each-same markedWords lastWidth mark-wide s b lastStart (marked (p .table .rows) (p .last)) (omega (arith, few .rows, n)) h)
+
+  pub bounds-again : (p : State) → Placed p → recordSize ≤ length s → HeldEach boundWords boundWidth s boundsStart (p .bounds) → boundsOver (p .bounds) s ≡ s
+  bounds-again p few room h =
+      rw (take-all mostRows (p .bounds) (omega (arith, few .rows, few .bounds)))
+      (each-same boundWords boundWidth (λ w. omega arith) s b boundsStart (p .bounds) (omega (arith, few .rows, few .bounds)) h)
+
   pub stands-again : (p : State) → Placed p → Stands p s → recordSize ≤ length s → recordOver p s ≡ s
   unfolding recordOver
   stands-again p few st room =
@@ -288,8 +328,8 @@ module _ (s : List ℕ) (b : Bytes s) where
         queue-again (p .a) queueaStart classPlaces (few .a) (omega (arith, few .a)) (st .a),
         queue-again (p .b) queuebStart classPlaces (few .b) (omega (arith, few .b)) (st .b),
         queue-again (p .best) bestStart bestPlaces (few .best) (omega (arith, few .best)) (st .best),
-        take-all mostRows (p .last) (omega (arith, few .rows, few .last)),
-        each-same lastWords lastWidth last-wide s b lastStart (p .last) (omega (arith, few .rows, few .last)) (st .last),
+        lasts-again p few room (st .last),
+        bounds-again p few room (st .bounds),
       )
       (held-same s b wireStart (wireWords (p .wire)) (omega (arith, wire-wide (p .wire))) (st .wire))
 
@@ -306,13 +346,14 @@ module _ (s : List ℕ) (b : Bytes s) where
       let t = tests s e in
       let h = head s e in
       record {
-        head = (h .version, (field.bits-same 32 (wordAt s idleaPlace) (h .idlea), (field.bits-same 32 (wordAt s idlebPlace) (h .idleb), (field.bits-same 16 (wordAt s payloadPlace) (h .payload), (sym (gathered-length (rowAt s) rowWidth rowsStart (wordAt s countPlace)), tt)))));
-        rows = each-held rowWords rowWidth s (rowFits s) (rowAt s) (field.row-same s) rowsStart (wordAt s countPlace) (t .1 .1 .0);
+        head = (h .version, (bits-same 32 (wordAt s idleaPlace) (h .idlea), (bits-same 32 (wordAt s idlebPlace) (h .idleb), (bits-same 16 (wordAt s payloadPlace) (h .payload), (sym (gathered-length (rowAt s) rowWidth rowsStart (wordAt s countPlace)), tt)))));
+        rows = each-held rowWords rowWidth s (rowFits s) (rowAt s) (row-same s) rowsStart (wordAt s countPlace) (t .1 .1 .0);
         numbers = (refl, (field.signed-same (wordAt s (clockStart + 1)) (word-small s b (clockStart + 1)), (field.signed-same (wordAt s (clockStart + 2)) (word-small s b (clockStart + 2)), tt)));
         a = queue-named queueaStart classPlaces (t .1 .1 .1 .0);
         b = queue-named queuebStart classPlaces (t .1 .1 .1 .1 .0);
         best = queue-named bestStart bestPlaces (t .1 .1 .1 .1 .1 .0);
-        last = each-held lastWords lastWidth s (lastFits s) (instantAt s) (field.last-same s) lastStart (wordAt s countPlace) (t .1 .1 .1 .1 .1 .1 .0);
+        last = marks-held s 0 (wordAt s countPlace) (t .1 .1 .1 .1 .1 .1 .0);
+        bounds = words-held s boundsStart (wordAt s countPlace);
         wire = field.wire-same s wireStart (t .1 .1 .1 .1 .1 .1 .1 .0);
       }
 
@@ -321,13 +362,14 @@ module _ (s : List ℕ) (b : Bytes s) where
   named-numbered =
       record {
         header = record { idlea = omega arith; idleb = omega arith; payload = omega arith };
-        rows = gathered-every RowFits (rowAt s) rowWidth (field.row-small s) rowsStart (wordAt s countPlace);
+        rows = gathered-every RowFits (rowAt s) rowWidth (row-small s) rowsStart (wordAt s countPlace);
+        bounds = gathered-every Word (wordAt s) boundWidth (word-small s b) boundsStart (wordAt s countPlace);
         clock = word-small s b clockStart;
         credita = field.signed-small (wordAt s (clockStart + 1)) (word-small s b (clockStart + 1));
         creditb = field.signed-small (wordAt s (clockStart + 2)) (word-small s b (clockStart + 2));
         a = gathered-every FrameFits (frameAt s) frameWidth (field.frame-small s b) (queueaStart + 1) (wordAt s queueaStart);
         b = gathered-every FrameFits (frameAt s) frameWidth (field.frame-small s b) (queuebStart + 1) (wordAt s queuebStart);
         best = gathered-every FrameFits (frameAt s) frameWidth (field.frame-small s b) (bestStart + 1) (wordAt s bestStart);
-        last = gathered-every InstantFits (instantAt s) lastWidth (field.last-small s b) lastStart (wordAt s countPlace);
+        last = for-fits (rowsAt s) _ (gathered-every InstantFits (instantAt s) lastWidth (field.last-small s b) lastStart (wordAt s countPlace));
         wire = field.wire-small s b wireStart;
       }

@@ -11,10 +11,12 @@ use Rattle.table.proofs.Laws.{and-true}
 use Rattle.machine.specs.Limits.{classPlaces, bestPlaces}
 use Rattle.machine.specs.State.{Placed}
 use Rattle.machine.proofs.FromSound.{Each, each-true}
-use Rattle.words.specs.Words.{wordAt}
+use Rattle.words.specs.Words.{wordAt, gathered}
+use Rattle.machine.proofs.Instants.{for-again}
 use Rattle.words.proofs.Laws.{gathered-length}
-use Rattle.recordbytes.specs.Layout.{version, headStart, rowsStart, queueaStart, queuebStart, bestStart, lastStart, idleaPlace, idlebPlace, payloadPlace, countPlace, rowWidth, frameWidth, lastWidth, recordSize}
-use Rattle.recordbytes.specs.Record.{rowAt, frameAt, instantAt, stateOf, fitsU16, fitsU32, headFits, queueFits, recordTests, isRecord}
+use Rattle.rowbytes.specs.Row.{rowWidth, rowAt, fitsU16, fitsU32}
+use Rattle.recordbytes.specs.Layout.{version, headStart, rowsStart, queueaStart, queuebStart, bestStart, lastStart, boundsStart, idleaPlace, idlebPlace, payloadPlace, countPlace, frameWidth, lastWidth, boundWidth, recordSize}
+use Rattle.recordbytes.specs.Record.{frameAt, instantAt, rowsAt, stateOf, headFits, queueFits, recordTests, isRecord}
 
 pub record Head (s : List ℕ) : Type 0 where
   pub version : wordAt s headStart ≡ version
@@ -67,8 +69,9 @@ module _ (s : List ℕ) (e : isRecord s ≡ true) where
   named-placed =
       record {
         rows = rw (gathered-length (rowAt s) rowWidth rowsStart (wordAt s countPlace)) (counts .rows);
+        bounds = gathered-length (wordAt s) boundWidth boundsStart (wordAt s countPlace) ∙ sym (gathered-length (rowAt s) rowWidth rowsStart (wordAt s countPlace));
         a = rw (gathered-length (frameAt s) frameWidth (queueaStart + 1) (wordAt s queueaStart)) (counts .a);
         b = rw (gathered-length (frameAt s) frameWidth (queuebStart + 1) (wordAt s queuebStart)) (counts .b);
         best = rw (gathered-length (frameAt s) frameWidth (bestStart + 1) (wordAt s bestStart)) (counts .best);
-        last = gathered-length (instantAt s) lastWidth lastStart (wordAt s countPlace) ∙ sym (gathered-length (rowAt s) rowWidth rowsStart (wordAt s countPlace));
+        last = for-again (rowsAt s) (gathered (instantAt s) lastWidth lastStart (wordAt s countPlace));
       }

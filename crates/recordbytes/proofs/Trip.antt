@@ -10,10 +10,13 @@ use Rattle.machine.specs.Limits.{classPlaces, bestPlaces}
 use Rattle.machine.specs.State.{State}
 use Rattle.words.specs.Words.{stored}
 use Rattle.words.proofs.Laws.{stored-length, spread-length, stored-behind, spread-behind}
-use Rattle.recordbytes.specs.Layout.{headStart, rowsStart, clockStart, queueaStart, queuebStart, bestStart, lastStart, wireStart, rowWidth, frameWidth, lastWidth, recordSize}
-use Rattle.recordbytes.specs.Record.{headWords, rowWords, numberWords, frameWords, lastWords, wireWords, tableOver, queueOver, recordOver}
+use Rattle.rowbytes.specs.Row.{rowWidth, rowWords}
+use Rattle.rowbytes.proofs.Laws.{row-wide}
+use Rattle.recordbytes.specs.Layout.{headStart, rowsStart, clockStart, queueaStart, queuebStart, bestStart, lastStart, boundsStart, wireStart, frameWidth, lastWidth, boundWidth, recordSize}
+use Rattle.recordbytes.specs.Record.{headWords, numberWords, frameWords, marked, markedWords, boundWords, wireWords, tableOver, queueOver, recordOver}
 use Rattle.recordbytes.specs.RoundTrip.{ReadingWritten, WritingRead, ReadFits, BehindKept, SameParts}
-use Rattle.recordbytes.proofs.Stands.{row-wide, last-wide, wire-wide, queue-length, written-stands, stands-read, stands-record, stands-again, named-stands, named-numbered}
+use Rattle.recordbytes.proofs.Marks.{mark-wide}
+use Rattle.recordbytes.proofs.Stands.{wire-wide, queue-length, written-stands, stands-read, stands-record, stands-again, named-stands, named-numbered}
 use Rattle.recordbytes.proofs.Tested.{long, named-placed}
 use Rattle.recordbytes.proofs.Placing.{view-from}
 
@@ -28,7 +31,8 @@ unfolding recordOver tableOver
 record-length p s =
     rw (
       stored-length _ wireStart (wireWords (p .wire)),
-      spread-length lastWords lastWidth lastStart (take mostRows (p .last)) _,
+      spread-length boundWords boundWidth boundsStart (take mostRows (p .bounds)) _,
+      spread-length markedWords lastWidth lastStart (take mostRows (marked (p .table .rows) (p .last))) _,
       queue-length bestStart bestPlaces (p .best) _,
       queue-length queuebStart classPlaces (p .b) _,
       queue-length queueaStart classPlaces (p .a) _,
@@ -42,7 +46,8 @@ unfolding recordOver tableOver
 record-behind p s i h =
     rw (
       stored-behind _ wireStart (wireWords (p .wire)) i (omega (arith, wire-wide (p .wire))),
-      spread-behind lastWords lastWidth last-wide lastStart (take mostRows (p .last)) _ i (omega (arith, length-take mostRows (p .last))),
+      spread-behind boundWords boundWidth (λ w. omega arith) boundsStart (take mostRows (p .bounds)) _ i (omega (arith, length-take mostRows (p .bounds))),
+      spread-behind markedWords lastWidth mark-wide lastStart (take mostRows (marked (p .table .rows) (p .last))) _ i (omega (arith, length-take mostRows (marked (p .table .rows) (p .last)))),
       queue-behind bestStart bestPlaces (p .best) _ i (omega arith),
       queue-behind queuebStart classPlaces (p .b) _ i (omega arith),
       queue-behind queueaStart classPlaces (p .a) _ i (omega arith),

@@ -1,29 +1,18 @@
 -- The ports that a record can hold: their parts find their places, and every number fits its field.
 use Prim.Native.Nat.{_<_, _^_}
 use lib.Signed.{mag}
-use Rattle.table.specs.declared.Pace.{Pace}
-use Rattle.table.specs.declared.Pace.the-variants.{Period, Rated}
-use Rattle.table.specs.declared.Row.{Row}
 use Rattle.table.specs.declared.Header.{Header}
 use Rattle.machine.specs.declared.Frame.{Frame}
 use Rattle.machine.specs.declared.Wire.{Wire}
 use Rattle.machine.specs.declared.Wire.the-variants.{Free, Sending}
 use Rattle.machine.specs.State.{Instant, never, at, State, Placed}
 use Rattle.words.specs.Words.{Every, Word}
+use Rattle.rowbytes.specs.Fits.{RowFits}
 
 pub record HeaderFits (h : Header) : Type 0 where
   pub idlea : h .idlea < 2 ^ 32
   pub idleb : h .idleb < 2 ^ 32
   pub payload : h .payload < 2 ^ 16
-
-abbrev pub PaceFits : Pace → Type 0
-PaceFits (Period p) = p < 2 ^ 32
-PaceFits (Rated samples rate) = (rate < 2 ^ 32) × (samples < 2 ^ 8)
-
-pub record RowFits (r : Row) : Type 0 where
-  pub payload : r .payload < 2 ^ 16
-  pub pace : PaceFits (r .pace)
-  pub deadline : r .deadline < 2 ^ 32
 
 pub record FrameFits (f : Frame) : Type 0 where
   pub source : f .source < 2 ^ 32
@@ -42,6 +31,7 @@ WireFits (Sending f left) = FrameFits f × (left < 2 ^ 32)
 pub record Numbered (s : State) : Type 0 where
   pub header : HeaderFits (s .table .header)
   pub rows : Every RowFits (s .table .rows)
+  pub bounds : Every Word (s .bounds)
   pub clock : Word (s .clock)
   pub credita : mag (s .credita) < 2 ^ 63
   pub creditb : mag (s .creditb) < 2 ^ 63

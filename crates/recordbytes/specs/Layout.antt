@@ -1,4 +1,4 @@
--- Where the parts of a port record stand: 704 words, each at its place.
+-- Where the parts of a port record stand: 736 words, each at its place.
 --   0            the version
 --   1 to 4       idle slope of A, of B, best-effort payload, row count
 --   5 to 196     32 rows: class (0 A, 1 B), payload, deadline, pace: 0 and the period; or 1, the rate and the samples
@@ -7,24 +7,20 @@
 --   393 to 585   queue of B
 --   586 to 634   best-effort queue: count, 16 frames
 --   635 to 698   32 last instants: mark (1 if there is one, else 0), instant
---   699 to 703   wire: 0 when free; 1, the frame and its bytes left (12 or fewer: it has been reported)
+--   699 to 730   32 bounds
+--   731 to 735   wire: 0 when free; 1, the frame and its bytes left (12 or fewer: it has been reported)
 use Prim.Native.Nat.{ℕ, _+_, _*_}
 use Rattle.table.specs.Limits.{mostRows}
 use Rattle.machine.specs.Limits.{classPlaces, bestPlaces}
+use Rattle.rowbytes.specs.Row.{rowWidth}
 
 -- The version, one for each layout and for each meaning of its words: above every idle slope, with which records began before they had one.
 abbrev pub version : ℕ
-version = 1000004
+version = 1000005
 
--- The words of the header, a pace, a row, the clock with the credits, a frame, an instant and the wire. A queue has a count before its frames.
+-- The words of the header, the clock with the credits, a frame, an instant, a bound and the wire. A queue has a count before its frames.
 abbrev pub headWidth : ℕ
 headWidth = 5
-
-abbrev pub paceWidth : ℕ
-paceWidth = 3
-
-abbrev pub rowWidth : ℕ
-rowWidth = 3 + paceWidth
 
 abbrev pub numbersWidth : ℕ
 numbersWidth = 3
@@ -34,6 +30,9 @@ frameWidth = 3
 
 abbrev pub lastWidth : ℕ
 lastWidth = 2
+
+abbrev pub boundWidth : ℕ
+boundWidth = 1
 
 abbrev pub wireWidth : ℕ
 wireWidth = 1 + frameWidth + 1
@@ -60,8 +59,11 @@ bestStart = queuebStart + 1 + frameWidth * classPlaces
 abbrev pub lastStart : ℕ
 lastStart = bestStart + 1 + frameWidth * bestPlaces
 
+abbrev pub boundsStart : ℕ
+boundsStart = lastStart + lastWidth * mostRows
+
 abbrev pub wireStart : ℕ
-wireStart = lastStart + lastWidth * mostRows
+wireStart = boundsStart + boundWidth * mostRows
 
 -- The header's words behind the version: the idle slopes of A and of B, the best-effort payload, the row count.
 abbrev pub idleaPlace : ℕ

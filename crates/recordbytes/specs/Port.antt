@@ -25,6 +25,7 @@ abbrev pub nothing : State
 nothing =
     record {
       table = record { header = record { idlea = 0; idleb = 0; payload = 0 }; rows = [] };
+      bounds = [];
       clock = 0;
       credita = pos 0;
       creditb = pos 0;

@@ -1,42 +1,27 @@
 -- A port record as bytes: the words of each part at its place, and what bytes are read as. Words that belong to no part, as those of queue places behind the last
--- frame, are not looked at, and keep what they hold.
-use Prim.Native.Nat.{ℕ, zero, suc, _+_, _-_, _%_}
+-- frame and the last instants of empty numbers, are not looked at, and keep what they hold.
+use Prim.Native.Nat.{ℕ, zero, suc, _+_, _-_, _*_}
 use mathlib.Core.Bool.{Bool, true, cond, _&&_}
 use mathlib.Core.List.{List, [], _∷_}
 use lib.Dec.{leb, eqb}
 use lib.IntN.{ℤ, pos, negsuc}
 use lib.ListN.{length, take}
-use Rattle.table.specs.declared.Class.{Class}
-use Rattle.table.specs.declared.Class.the-variants.{A, B}
-use Rattle.table.specs.declared.Pace.{Pace}
-use Rattle.table.specs.declared.Pace.the-variants.{Period, Rated}
 use Rattle.table.specs.declared.Row.{Row}
 use Rattle.table.specs.Limits.{mostRows}
-use Rattle.table.specs.Rows.{Contents}
+use Rattle.table.specs.Rows.{isThere, Contents}
 use Rattle.machine.specs.declared.Frame.{Frame}
 use Rattle.machine.specs.declared.Wire.{Wire}
 use Rattle.machine.specs.declared.Wire.the-variants.{Free, Sending}
 use Rattle.machine.specs.Limits.{classPlaces, bestPlaces}
-use Rattle.machine.specs.State.{Instant, never, at, State}
+use Rattle.machine.specs.State.{Instant, never, at, instantsFor, State}
 use Rattle.machine.specs.Record.{allTrue}
 use Rattle.words.specs.Words.{wordAt, stored, spread, gathered}
-use Rattle.recordbytes.specs.Layout.{version, headStart, rowsStart, clockStart, queueaStart, queuebStart, bestStart, lastStart, wireStart, idleaPlace, idlebPlace, payloadPlace, countPlace, rowWidth, frameWidth, lastWidth, recordSize}
+use Rattle.rowbytes.specs.Row.{rowWidth, rowWords, u16Of, u32Of, rowAt, fitsU16, fitsU32, fitsMark, rowFits}
+use Rattle.recordbytes.specs.Layout.{version, headStart, rowsStart, clockStart, queueaStart, queuebStart, bestStart, lastStart, boundsStart, wireStart, idleaPlace, idlebPlace, payloadPlace, countPlace, frameWidth, lastWidth, boundWidth, recordSize}
 
 -- ---- the words of a port's parts
 abbrev pub headWords : Contents → List ℕ
 headWords t = version ∷ t .header .idlea ∷ t .header .idleb ∷ t .header .payload ∷ length (t .rows) ∷ []
-
-abbrev pub classWord : Class → ℕ
-classWord A = 0
-classWord B = 1
-
--- Of a pace that states a period, only its mark and the period.
-abbrev pub paceWords : Pace → List ℕ
-paceWords (Period p) = 0 ∷ p ∷ []
-paceWords (Rated samples rate) = 1 ∷ rate ∷ samples ∷ []
-
-abbrev pub rowWords : Row → List ℕ
-rowWords r = classWord (r .class) ∷ r .payload ∷ r .deadline ∷ paceWords (r .pace)
 
 -- Two's complement: −(n + 1) is 2 ^ 64 − 1 − n.
 abbrev pub signedWord : ℤ → ℕ
@@ -54,6 +39,18 @@ abbrev pub lastWords : Instant → List ℕ
 lastWords never = 0 ∷ []
 lastWords (at k) = 1 ∷ k ∷ []
 
+-- Each number's row with its last instant: of an empty number not even the mark is stored.
+unfoldable pub marked : List Row → List Instant → List (Row × Instant)
+marked [] is = []
+marked (r ∷ rs) [] = (r, never) ∷ marked rs []
+marked (r ∷ rs) (i ∷ is) = (r, i) ∷ marked rs is
+
+abbrev pub markedWords : Row × Instant → List ℕ
+markedWords m = cond (isThere (m .0)) (lastWords (m .1)) []
+
+abbrev pub boundWords : ℕ → List ℕ
+boundWords b = b ∷ []
+
 abbrev pub wireWords : Wire → List ℕ
 wireWords Free = 0 ∷ []
 wireWords (Sending f left) = 1 ∷ f .source ∷ f .size ∷ f .taken ∷ left ∷ []
@@ -65,6 +62,12 @@ tableOver t s = spread rowWords rowWidth rowsStart (take mostRows (t .rows)) (st
 unfoldable pub queueOver : ℕ → ℕ → List Frame → List ℕ → List ℕ
 queueOver k places q s = spread frameWords frameWidth (k + 1) (take places q) (stored s k (length q ∷ []))
 
+abbrev pub lastsOver : List Row → List Instant → List ℕ → List ℕ
+lastsOver rows last s = spread markedWords lastWidth lastStart (take mostRows (marked rows last)) s
+
+abbrev pub boundsOver : List ℕ → List ℕ → List ℕ
+boundsOver bounds s = spread boundWords boundWidth boundsStart (take mostRows bounds) s
+
 unfoldable pub recordOver : State → List ℕ → List ℕ
 recordOver p s =
     let table = tableOver (p .table) s in
@@ -72,30 +75,13 @@ recordOver p s =
     let a = queueOver queueaStart classPlaces (p .a) numbers in
     let b = queueOver queuebStart classPlaces (p .b) a in
     let best = queueOver bestStart bestPlaces (p .best) b in
-    let lasts = spread lastWords lastWidth lastStart (take mostRows (p .last)) best in
-    stored lasts wireStart (wireWords (p .wire))
+    let lasts = lastsOver (p .table .rows) (p .last) best in
+    let bounds = boundsOver (p .bounds) lasts in
+    stored bounds wireStart (wireWords (p .wire))
 
 -- ---- the port that words name: of a word that is larger than its field, what the field can hold
-abbrev pub u8Of : ℕ → ℕ
-u8Of w = w % 256
-
-abbrev pub u16Of : ℕ → ℕ
-u16Of w = w % 65536
-
-abbrev pub u32Of : ℕ → ℕ
-u32Of w = w % 4294967296
-
-abbrev pub classOf : ℕ → Class
-classOf w = cond (eqb w 0) A B
-
 abbrev pub signedOf : ℕ → ℤ
 signedOf w = cond (leb w 9223372036854775807) (pos w) (negsuc (18446744073709551615 - w))
-
-unfoldable pub paceAt : List ℕ → ℕ → Pace
-paceAt s k = cond (eqb (wordAt s k) 1) (Rated (u8Of (wordAt s (k + 2))) (u32Of (wordAt s (k + 1)))) (Period (u32Of (wordAt s (k + 1))))
-
-abbrev pub rowAt : List ℕ → ℕ → Row
-rowAt s k = record { class = classOf (wordAt s k); payload = u16Of (wordAt s (k + 1)); pace = paceAt s (k + 3); deadline = u32Of (wordAt s (k + 2)) }
 
 abbrev pub frameAt : List ℕ → ℕ → Frame
 frameAt s k = record { source = u32Of (wordAt s k); size = u32Of (wordAt s (k + 1)); taken = wordAt s (k + 2) }
@@ -109,53 +95,42 @@ wireAt s k = cond (eqb (wordAt s k) 1) (Sending (frameAt s (k + 1)) (u32Of (word
 abbrev pub queueAt : List ℕ → ℕ → List Frame
 queueAt s k = gathered (frameAt s) frameWidth (k + 1) (wordAt s k)
 
+abbrev pub rowsAt : List ℕ → List Row
+rowsAt s = gathered (rowAt s) rowWidth rowsStart (wordAt s countPlace)
+
 unfoldable pub stateOf : List ℕ → State
 stateOf s =
     record {
       table =
           record {
             header = record { idlea = u32Of (wordAt s idleaPlace); idleb = u32Of (wordAt s idlebPlace); payload = u16Of (wordAt s payloadPlace) };
-            rows = gathered (rowAt s) rowWidth rowsStart (wordAt s countPlace);
+            rows = rowsAt s;
           };
+      bounds = gathered (wordAt s) boundWidth boundsStart (wordAt s countPlace);
       clock = wordAt s clockStart;
       credita = signedOf (wordAt s (clockStart + 1));
       creditb = signedOf (wordAt s (clockStart + 2));
       a = queueAt s queueaStart;
       b = queueAt s queuebStart;
       best = queueAt s bestStart;
-      last = gathered (instantAt s) lastWidth lastStart (wordAt s countPlace);
+      last = instantsFor (rowsAt s) (gathered (instantAt s) lastWidth lastStart (wordAt s countPlace));
       wire = wireAt s wireStart;
     }
 
 -- ---- whether bytes are a record: there are enough of them, they are of this version, counts are within the places, and each word of a part fits its field. A clock,
--- a credit and an instant take any word.
-abbrev pub fitsU8 : ℕ → Bool
-fitsU8 w = leb w 255
-
-abbrev pub fitsU16 : ℕ → Bool
-fitsU16 w = leb w 65535
-
-abbrev pub fitsU32 : ℕ → Bool
-fitsU32 w = leb w 4294967295
-
--- A class or a mark.
-abbrev pub fitsMark : ℕ → Bool
-fitsMark w = leb w 1
-
+-- a credit, an instant and a bound take any word.
 unfoldable pub headFits : List ℕ → Bool
 headFits s = (eqb (wordAt s headStart) version && leb (wordAt s countPlace) mostRows) && ((fitsU32 (wordAt s idleaPlace) && fitsU32 (wordAt s idlebPlace)) && fitsU16 (wordAt s payloadPlace))
-
-unfoldable pub paceFits : List ℕ → ℕ → Bool
-paceFits s k = cond (eqb (wordAt s k) 1) (fitsU32 (wordAt s (k + 1)) && fitsU8 (wordAt s (k + 2))) (eqb (wordAt s k) 0 && fitsU32 (wordAt s (k + 1)))
-
-abbrev pub rowFits : List ℕ → ℕ → Bool
-rowFits s k = (fitsMark (wordAt s k) && fitsU16 (wordAt s (k + 1))) && (fitsU32 (wordAt s (k + 2)) && paceFits s (k + 3))
 
 abbrev pub frameFits : List ℕ → ℕ → Bool
 frameFits s k = fitsU32 (wordAt s k) && fitsU32 (wordAt s (k + 1))
 
 abbrev pub lastFits : List ℕ → ℕ → Bool
 lastFits s k = fitsMark (wordAt s k)
+
+-- The mark of number i, if it is in use.
+abbrev pub markFits : List ℕ → ℕ → Bool
+markFits s i = cond (isThere (rowAt s (rowsStart + rowWidth * i))) (lastFits s (lastStart + lastWidth * i)) true
 
 unfoldable pub wireFits : List ℕ → ℕ → Bool
 wireFits s k = cond (eqb (wordAt s k) 1) (frameFits s (k + 1) && fitsU32 (wordAt s (k + 1 + frameWidth))) (eqb (wordAt s k) 0)
@@ -176,7 +151,7 @@ recordTests s =
     ∷ queueFits s queueaStart classPlaces
     ∷ queueFits s queuebStart classPlaces
     ∷ queueFits s bestStart bestPlaces
-    ∷ each (lastFits s) lastWidth lastStart (wordAt s countPlace)
+    ∷ each (markFits s) 1 0 (wordAt s countPlace)
     ∷ wireFits s wireStart
     ∷ []
 

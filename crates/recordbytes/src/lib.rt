@@ -1,20 +1,18 @@
 // A port record as bytes: where its words stand, and what bytes are read as. specs/Layout.antt has the same numbers.
 
 // The version of the layout and of what its words say.
-pub const VERSION: u64 = 1_000_004;
+pub const VERSION: u64 = 1_000_005;
 
-// The words of the header, a pace, a row, the clock with the credits, a frame, an instant and the wire. A queue has a count before its frames.
+// The words of the header, the clock with the credits, a frame, an instant, a bound and the wire. A queue has a count before its frames.
 pub const HEAD_WIDTH: usize = 5;
-
-pub const PACE_WIDTH: usize = 3;
-
-pub const ROW_WIDTH: usize = 3 + PACE_WIDTH;
 
 pub const NUMBERS_WIDTH: usize = 3;
 
 pub const FRAME_WIDTH: usize = 3;
 
 pub const LAST_WIDTH: usize = 2;
+
+pub const BOUND_WIDTH: usize = 1;
 
 pub const WIRE_WIDTH: usize = 1 + FRAME_WIDTH + 1;
 
@@ -23,7 +21,7 @@ pub const HEAD_START: usize = 0;
 
 pub const ROWS_START: usize = HEAD_START + HEAD_WIDTH;
 
-pub const CLOCK_START: usize = ROWS_START + ROW_WIDTH * table::ROWS;
+pub const CLOCK_START: usize = ROWS_START + rowbytes::ROW_WIDTH * table::ROWS;
 
 pub const QUEUEA_START: usize = CLOCK_START + NUMBERS_WIDTH;
 
@@ -33,7 +31,9 @@ pub const BEST_START: usize = QUEUEB_START + 1 + FRAME_WIDTH * table::CLASS_PLAC
 
 pub const LAST_START: usize = BEST_START + 1 + FRAME_WIDTH * machine::BEST_PLACES;
 
-pub const WIRE_START: usize = LAST_START + LAST_WIDTH * table::ROWS;
+pub const BOUNDS_START: usize = LAST_START + LAST_WIDTH * table::ROWS;
+
+pub const WIRE_START: usize = BOUNDS_START + BOUND_WIDTH * table::ROWS;
 
 // The header's words behind the version: the idle slopes of A and of B, the best-effort payload, the row count.
 pub const IDLEA_PLACE: usize = HEAD_START + 1;

@@ -4,7 +4,7 @@ use mathlib.Core.Bool.{true}
 use mathlib.Core.List.{List, [], _∷_, _++_}
 use mathlib.Core.Path.{_≡_, refl, sym, _∙_, ap}
 use native.Mathlib.Omega.{arith}
-use lib.ListN.{length, take, set}
+use lib.ListN.{length, set}
 use borrow.Author.Tests.{lt-ltb, le-leb, lt-leb}
 use Rattle.table.specs.Limits.{mostRows, classPlaces}
 use Rattle.machine.specs.declared.Frame.{Frame}
@@ -14,12 +14,12 @@ use Rattle.machine.specs.declared.Effect.{Effect}
 use Rattle.machine.specs.Limits.{bestPlaces}
 use Rattle.machine.specs.State.{at, State, Placed}
 use Rattle.machine.specs.Time.{behindHead}
-use Rattle.machine.specs.Effects.{changedBy, movedTo, carriedOut, Room}
-use Rattle.words.specs.Words.{Bytes, wordAt, stored, spread}
+use Rattle.machine.specs.Effects.{changedBy, movedTo, carriedOut, HasRow, Room}
+use Rattle.words.specs.Words.{Bytes, wordAt, stored}
 use Rattle.words.proofs.Laws.{gathered-length, Rest, rest-whole, rest-stored}
-use Rattle.recordbytes.specs.Layout.{clockStart, queueaStart, queuebStart, bestStart, lastStart, wireStart, frameWidth, lastWidth, recordSize}
-use Rattle.recordbytes.specs.Record.{signedWord, frameWords, lastWords, wireWords, frameAt, queueAt, tableOver, queueOver, stateOf, isRecord, recordOver}
-use Rattle.recordbytes.proofs.Laws.{long, named-placed, Stands, table-again, named-stands, queue-same, queue-rest, queue-kept, queue-joined, lasts-kept, lasts-noted}
+use Rattle.recordbytes.specs.Layout.{clockStart, queueaStart, queuebStart, bestStart, lastStart, boundsStart, wireStart, frameWidth, lastWidth, recordSize}
+use Rattle.recordbytes.specs.Record.{signedWord, frameWords, lastWords, wireWords, frameAt, queueAt, tableOver, queueOver, lastsOver, boundsOver, stateOf, isRecord, recordOver}
+use Rattle.recordbytes.proofs.Laws.{long, named-placed, Stands, table-again, named-stands, queue-same, queue-rest, queue-kept, queue-joined, lasts-kept, lasts-noted, bounds-kept}
 use Rattle.recordchange.specs.Changed.{leftOver, joinedOver, notedOver, changedOver, numbersOver, effectOver}
 
 module _ (s : List ℕ) (b : Bytes s) (ok : isRecord s ≡ true) (e : Effect) where
@@ -79,37 +79,43 @@ module _ (s : List ℕ) (b : Bytes s) (ok : isRecord s ≡ true) (e : Effect) wh
     best-kept : n ≤ bestStart → queueOver bestStart bestPlaces (p .best) u ≡ u
     best-kept h = queue-kept r room (p .best) bestStart bestPlaces h (few .best) (omega arith) (st .best)
 
-    last-kept : n ≤ lastStart → spread lastWords lastWidth lastStart (take mostRows (p .last)) u ≡ u
-    last-kept h = lasts-kept r room (p .last) h (omega (arith, few .rows, few .last)) (st .last)
+    last-kept : n ≤ lastStart → lastsOver (p .table .rows) (p .last) u ≡ u
+    last-kept h = lasts-kept r room p few st h
 
-    last-noted : (f : Frame) → n ≤ lastStart → f .source < mostRows → f .source < length (p .last) → spread lastWords lastWidth lastStart (take mostRows (set (p .last) (f .source) (at (f .taken)))) u ≡ notedOver f u
-    last-noted f h g i = rw (lt-ltb (f .source) mostRows g) (lasts-noted r room (p .last) (f .source) (at (f .taken)) h i (omega (arith, few .rows, few .last)) (st .last))
+    last-noted : (f : Frame) → n ≤ lastStart → HasRow f p → lastsOver (p .table .rows) (set (p .last) (f .source) (at (f .taken))) u ≡ notedOver f u
+    last-noted f h g = rw (lt-ltb (f .source) mostRows (g .0)) (lasts-noted r room p few st (f .source) (at (f .taken)) h (g .1) (g .2))
+
+    noted-rest : (f : Frame) → n ≤ boundsStart → HasRow f p → Rest boundsStart s (notedOver f u)
+    noted-rest f h g = rw (lt-ltb (f .source) mostRows (g .0)) (rest-stored r (lastStart + lastWidth * f .source) (lastWords (at (f .taken))) boundsStart h (omega (arith, g .0)))
+
+    bound-kept : n ≤ boundsStart → boundsOver (p .bounds) u ≡ u
+    bound-kept h = bounds-kept r room p few st h
 
   -- ---- the whole record
   pub over-by : (c : Change) → Room c p → stored (changedOver c t) wireStart (wireWords (e .wire)) ≡ recordOver (movedTo e (changedBy c p)) s
   unfolding recordOver
-  over-by None r = rw (table-kept, a-kept behind (omega arith), b-kept behind (omega arith), best-kept behind (omega arith), last-kept behind (omega arith)) refl
+  over-by None r = rw (table-kept, a-kept behind (omega arith), b-kept behind (omega arith), best-kept behind (omega arith), last-kept behind (omega arith), bound-kept behind (omega arith)) refl
   over-by LeftA r =
       let u : Rest queuebStart s (queueOver queueaStart classPlaces (behindHead (p .a)) t) = queue-rest behind (behindHead (p .a)) queueaStart classPlaces queuebStart (omega arith) (omega arith) in
-      rw (left-is (p .a) queueaStart classPlaces (omega arith) a-is r, table-kept, b-kept u (omega arith), best-kept u (omega arith), last-kept u (omega arith)) refl
+      rw (left-is (p .a) queueaStart classPlaces (omega arith) a-is r, table-kept, b-kept u (omega arith), best-kept u (omega arith), last-kept u (omega arith), bound-kept u (omega arith)) refl
   over-by LeftB r =
       let u : Rest bestStart s (queueOver queuebStart classPlaces (behindHead (p .b)) t) = queue-rest behind (behindHead (p .b)) queuebStart classPlaces bestStart (omega arith) (omega arith) in
-      rw (left-is (p .b) queuebStart classPlaces (omega arith) b-is r, table-kept, a-kept behind (omega arith), best-kept u (omega arith), last-kept u (omega arith)) refl
+      rw (left-is (p .b) queuebStart classPlaces (omega arith) b-is r, table-kept, a-kept behind (omega arith), best-kept u (omega arith), last-kept u (omega arith), bound-kept u (omega arith)) refl
   over-by LeftBest r =
       let u : Rest lastStart s (queueOver bestStart bestPlaces (behindHead (p .best)) t) = queue-rest behind (behindHead (p .best)) bestStart bestPlaces lastStart (omega arith) (omega arith) in
-      rw (left-is (p .best) bestStart bestPlaces (omega arith) best-is r, table-kept, a-kept behind (omega arith), b-kept behind (omega arith), last-kept u (omega arith)) refl
+      rw (left-is (p .best) bestStart bestPlaces (omega arith) best-is r, table-kept, a-kept behind (omega arith), b-kept behind (omega arith), last-kept u (omega arith), bound-kept u (omega arith)) refl
   over-by (JoinedA f) r =
       let j = queue-joined behind room (p .a) queueaStart classPlaces f (omega arith) (r .0) (omega arith) (st .a) in
       let u : Rest queuebStart s (queueOver queueaStart classPlaces (p .a ++ f ∷ []) t) = queue-rest behind (p .a ++ f ∷ []) queueaStart classPlaces queuebStart (omega arith) (omega arith) in
-      rw (joined-is (p .a) queueaStart classPlaces f (omega arith) a-is (r .0), ← j, table-kept, b-kept u (omega arith), best-kept u (omega arith), last-noted u f (omega arith) (r .1 .0) (r .1 .1)) refl
+      rw (joined-is (p .a) queueaStart classPlaces f (omega arith) a-is (r .0), ← j, table-kept, b-kept u (omega arith), best-kept u (omega arith), last-noted u f (omega arith) (r .1), bound-kept (noted-rest u f (omega arith) (r .1)) (omega arith)) refl
   over-by (JoinedB f) r =
       let j = queue-joined behind room (p .b) queuebStart classPlaces f (omega arith) (r .0) (omega arith) (st .b) in
       let u : Rest bestStart s (queueOver queuebStart classPlaces (p .b ++ f ∷ []) t) = queue-rest behind (p .b ++ f ∷ []) queuebStart classPlaces bestStart (omega arith) (omega arith) in
-      rw (joined-is (p .b) queuebStart classPlaces f (omega arith) b-is (r .0), ← j, table-kept, a-kept behind (omega arith), best-kept u (omega arith), last-noted u f (omega arith) (r .1 .0) (r .1 .1)) refl
+      rw (joined-is (p .b) queuebStart classPlaces f (omega arith) b-is (r .0), ← j, table-kept, a-kept behind (omega arith), best-kept u (omega arith), last-noted u f (omega arith) (r .1), bound-kept (noted-rest u f (omega arith) (r .1)) (omega arith)) refl
   over-by (JoinedBest f) r =
       let j = queue-joined behind room (p .best) bestStart bestPlaces f (omega arith) r (omega arith) (st .best) in
       let u : Rest lastStart s (queueOver bestStart bestPlaces (p .best ++ f ∷ []) t) = queue-rest behind (p .best ++ f ∷ []) bestStart bestPlaces lastStart (omega arith) (omega arith) in
-      rw (joined-is (p .best) bestStart bestPlaces f (omega arith) best-is r, ← j, table-kept, a-kept behind (omega arith), b-kept behind (omega arith), last-kept u (omega arith)) refl
+      rw (joined-is (p .best) bestStart bestPlaces f (omega arith) best-is r, ← j, table-kept, a-kept behind (omega arith), b-kept behind (omega arith), last-kept u (omega arith), bound-kept u (omega arith)) refl
 
   pub all-changed : {u v w : List ℕ} → u ≡ t → v ≡ changedOver (e .change) u → w ≡ stored v wireStart (wireWords (e .wire)) → Room (e .change) p → w ≡ recordOver (carriedOut e p) s
   all-changed eu ev ew r = ew ∙ rw (ev, eu) (over-by (e .change) r)

@@ -13,19 +13,13 @@ use Rattle.words.specs.Words.{Bytes, wordAt, stored, spread, gathered}
 use Rattle.words.proofs.Laws.{gathered-length, spread-next, Rest, rest-whole, rest-stored, rest-spread}
 use Rattle.recordbytes.specs.Layout.{frameWidth}
 use Rattle.recordbytes.specs.Record.{frameWords, frameAt, queueOver}
-use Rattle.recordbytes.proofs.Laws.{frames-same}
+use Rattle.recordbytes.proofs.Laws.{gathered-at, frames-same}
 use Rattle.recordchange.specs.Changed.{leftOver}
 
 behind-head : (f : ℕ → Frame) (size k n : ℕ) → behindHead (gathered f size k n) ≡ gathered f size (k + size) (n - 1)
 unfolding gathered
 behind-head f size k zero = refl
 behind-head f size k (suc n) = let z : suc n - 1 ≡ n = omega arith in rw z refl
-
-gathered-at : (f : ℕ → Frame) (size k n i : ℕ) (d : Frame) → i < n → getD (gathered f size k n) i d ≡ f (k + size * i)
-unfolding gathered
-gathered-at f size k zero i d h = absurd (omega arith)
-gathered-at f size k (suc n) zero d h = let z : k + size * 0 ≡ k = omega arith in rw z refl
-gathered-at f size k (suc n) (suc i) d h = let z : k + size + size * i ≡ k + size * suc i = omega arith in gathered-at f size (k + size) n i d (omega arith) ∙ ap f z
 
 -- a queue with more frames than places stays as it is
 pub too-many : (s : List ℕ) (k places : ℕ) → places < wordAt s k → s ≡ leftOver k places s

@@ -13,24 +13,8 @@ use machine::Wire;
 use recordbytes::CLOCK_START;
 use recordbytes::FRAME_WIDTH;
 use recordbytes::WIRE_START;
-
-// A word that has room.
-pub fn put_word(out: &mut [u8], k: usize, w: u64)
-    requires { ⌜ 8 * (k + 1) ≤ length (now out) ⌝ }
-    ensures { λ _. ⌜ now (out .exit) ≡ stored (now (out .entry)) k (w ∷ []) ⌝ }
-{
-    words::words::put_word(out, k, w)
-}
-
-// Three words, one behind the other.
-pub fn put_three(out: &mut [u8], k: usize, a: u64, b: u64, c: u64)
-    requires { ⌜ 8 * (k + 3) ≤ length (now out) ⌝ }
-    ensures { λ _. ⌜ now (out .exit) ≡ stored (now (out .entry)) k (a ∷ b ∷ c ∷ []) ⌝ }
-{
-    put_word(out, k, a);
-    put_word(out, k + 1, b);
-    put_word(out, k + 2, c);
-}
+use rowbytes::write::put_three;
+use rowbytes::write::put_word;
 
 // Two's complement.
 fn signed_word(z: i64) -> u64

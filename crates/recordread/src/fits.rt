@@ -1,9 +1,10 @@
-// Whether bytes are a record: every word of a part fits its field. Words that belong to no part are not looked at.
+// Whether bytes are a record: every word of a part fits its field. Words that belong to no part may hold anything.
 ghost use mathlib.Core.Path.{_≡_};
-ghost use Prim.Native.Nat.{_+_, _*_, _≤_};
+ghost use Prim.Native.Nat.{_+_, _*_, _≤_, _<_};
 ghost use Rattle.table.specs.Limits.{mostRows};
-ghost use Rattle.recordbytes.specs.Layout.{rowsStart, lastStart, wireStart, paceWidth, rowWidth, frameWidth, lastWidth, recordWidth};
-ghost use Rattle.recordbytes.specs.Record.{headFits, paceFits, rowFits, frameFits, lastFits, wireFits, each, queueFits, isRecord};
+ghost use Rattle.rowbytes.specs.Row.{rowWidth, rowFits};
+ghost use Rattle.recordbytes.specs.Layout.{rowsStart, wireStart, frameWidth, recordWidth};
+ghost use Rattle.recordbytes.specs.Record.{headFits, frameFits, lastFits, markFits, wireFits, each, queueFits, isRecord};
 use machine::BEST_PLACES;
 use recordbytes::BEST_START;
 use recordbytes::COUNT_PLACE;
@@ -17,20 +18,18 @@ use recordbytes::PAYLOAD_PLACE;
 use recordbytes::QUEUEA_START;
 use recordbytes::QUEUEB_START;
 use recordbytes::RECORD_SIZE;
-use recordbytes::ROW_WIDTH;
 use recordbytes::ROWS_START;
 use recordbytes::VERSION;
 use recordbytes::WIRE_START;
+use rowbytes::ROW_WIDTH;
+use rowbytes::fits::U16;
+use rowbytes::fits::U32;
+use rowbytes::fits::row_fits;
+use rowbytes::read::row_at;
 use table::CLASS_PLACES;
 use table::ROWS;
+use table::rows::is_there;
 use words::words::word;
-
-// The largest numbers of 8, of 16 and of 32 bits.
-const U8: u64 = 255;
-
-const U16: u64 = 65_535;
-
-const U32: u64 = 4_294_967_295;
 
 fn head_fits(s: &[u8]) -> bool
     ensures { λ r. ⌜ r ≡ headFits (now (s .entry)) ⌝ }
@@ -38,27 +37,6 @@ fn head_fits(s: &[u8]) -> bool
     let known = (word(s, HEAD_START) == VERSION) & (word(s, COUNT_PLACE) <= ROWS as u64);
     let slopes = (word(s, IDLEA_PLACE) <= U32) & (word(s, IDLEB_PLACE) <= U32);
     known & (slopes & (word(s, PAYLOAD_PLACE) <= U16))
-}
-
-// Behind the mark stands a period or a rate.
-fn pace_fits(s: &[u8], k: usize) -> bool
-    requires { ⌜ k + paceWidth ≤ recordWidth ⌝ }
-    ensures { λ r. ⌜ r ≡ paceFits (now (s .entry)) k ⌝ }
-{
-    let mark = word(s, k);
-    let value = word(s, k + 1) <= U32;
-    if mark == 1 {
-        return value & (word(s, k + 2) <= U8);
-    }
-    (mark == 0) & value
-}
-
-fn row_fits(s: &[u8], k: usize) -> bool
-    requires { ⌜ k + rowWidth ≤ recordWidth ⌝ }
-    ensures { λ r. ⌜ r ≡ rowFits (now (s .entry)) k ⌝ }
-{
-    let class = (word(s, k) <= 1) & (word(s, k + 1) <= U16);
-    class & ((word(s, k + 2) <= U32) & pace_fits(s, k + 3))
 }
 
 fn frame_fits(s: &[u8], k: usize) -> bool
@@ -72,6 +50,18 @@ fn last_fits(s: &[u8], k: usize) -> bool
     ensures { λ r. ⌜ r ≡ lastFits (now (s .entry)) k ⌝ }
 {
     word(s, k) <= 1
+}
+
+// The mark of number i. An empty number's may hold anything: where it isn't a mark the row decides.
+fn mark_fits(s: &[u8], i: usize) -> bool
+    requires { ⌜ i < mostRows ⌝ }
+    ensures { λ r. ⌜ r ≡ markFits (now (s .entry)) i ⌝ }
+{
+    if last_fits(s, LAST_START + LAST_WIDTH * i) {
+        return true;
+    }
+    let row = row_at(s, ROWS_START + ROW_WIDTH * i);
+    !is_there(row)
 }
 
 fn wire_fits(s: &[u8]) -> bool
@@ -114,11 +104,11 @@ fn frames_fit(s: &[u8], k: usize, n: usize) -> bool
 
 fn lasts_fit(s: &[u8], n: usize) -> bool
     requires { ⌜ n ≤ mostRows ⌝ }
-    ensures { λ r. ⌜ r ≡ each (lastFits (now (s .entry))) lastWidth lastStart n ⌝ }
+    ensures { λ r. ⌜ r ≡ each (markFits (now (s .entry))) 1 0 n ⌝ }
 {
     let mut i: usize = 0;
     while i < n {
-        if !last_fits(s, LAST_START + LAST_WIDTH * i) {
+        if !mark_fits(s, i) {
             return false;
         }
         i += 1;

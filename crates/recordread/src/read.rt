@@ -1,16 +1,17 @@
 // The port that a record's bytes name.
 ghost use mathlib.Core.Path.{_≡_};
-ghost use mathlib.Core.Bool.{true};
+ghost use mathlib.Core.Bool.{true, cond};
 ghost use mathlib.Core.List.{map};
-ghost use Prim.Native.Nat.{_+_, _*_, _≤_};
+ghost use Prim.Native.Nat.{_+_, _*_, _≤_, _<_};
 ghost use lib.ListN.{length};
 ghost use Rattle.table.specs.Limits.{mostRows};
-ghost use Rattle.table.specs.Rows.{noRow};
+ghost use Rattle.table.specs.Rows.{noRow, isThere};
 ghost use Rattle.machine.specs.Limits.{classPlaces, bestPlaces};
-ghost use Rattle.machine.specs.State.{zeroFrame, zeroLast, placed, lastOf};
+ghost use Rattle.machine.specs.State.{never, instantsFor, zeroFrame, zeroLast, placed, lastOf};
 ghost use Rattle.words.specs.Words.{wordAt, gathered};
-ghost use Rattle.recordbytes.specs.Layout.{rowsStart, lastStart, wireStart, countPlace, paceWidth, rowWidth, frameWidth, lastWidth, recordWidth};
-ghost use Rattle.recordbytes.specs.Record.{u8Of, u16Of, u32Of, classOf, signedOf, paceAt, rowAt, frameAt, instantAt, queueAt, wireAt, stateOf, isRecord};
+ghost use Rattle.rowbytes.specs.Row.{rowWidth, rowAt};
+ghost use Rattle.recordbytes.specs.Layout.{rowsStart, lastStart, boundsStart, wireStart, countPlace, frameWidth, lastWidth, boundWidth, recordWidth};
+ghost use Rattle.recordbytes.specs.Record.{signedOf, frameAt, instantAt, queueAt, wireAt, stateOf, isRecord};
 ghost use Rattle.recordbytes.specs.Port.{tableFrom, portFrom, nothing, readRecord};
 use crate::fits::is_record;
 use machine::BEST_PLACES;
@@ -21,6 +22,8 @@ use machine::Port;
 use machine::Queue;
 use machine::Wire;
 use recordbytes::BEST_START;
+use recordbytes::BOUND_WIDTH;
+use recordbytes::BOUNDS_START;
 use recordbytes::CLOCK_START;
 use recordbytes::COUNT_PLACE;
 use recordbytes::FRAME_WIDTH;
@@ -31,47 +34,21 @@ use recordbytes::LAST_WIDTH;
 use recordbytes::PAYLOAD_PLACE;
 use recordbytes::QUEUEA_START;
 use recordbytes::QUEUEB_START;
-use recordbytes::ROW_WIDTH;
 use recordbytes::ROWS_START;
 use recordbytes::Reading;
 use recordbytes::WIRE_START;
+use rowbytes::ROW_WIDTH;
+use rowbytes::read::row_at;
+use rowbytes::read::u16_at;
+use rowbytes::read::u32_at;
 use table::CLASS_PLACES;
-use table::Class;
 use table::Header;
-use table::Pace;
 use table::ROWS;
 use table::Row;
 use table::Table;
+use table::rows::is_there;
 use table::rows::no_row;
 use words::words::word;
-
-// Of the word of number k, what a field of 8, of 16 or of 32 bits can hold.
-fn u8_at(s: &[u8], k: usize) -> u8
-    ensures { λ r. ⌜ r ≡ u8Of (wordAt (now (s .entry)) k) ⌝ }
-{
-    (word(s, k) % 256) as u8
-}
-
-fn u16_at(s: &[u8], k: usize) -> u16
-    ensures { λ r. ⌜ r ≡ u16Of (wordAt (now (s .entry)) k) ⌝ }
-{
-    (word(s, k) % 65_536) as u16
-}
-
-fn u32_at(s: &[u8], k: usize) -> u32
-    ensures { λ r. ⌜ r ≡ u32Of (wordAt (now (s .entry)) k) ⌝ }
-{
-    (word(s, k) % 4_294_967_296) as u32
-}
-
-fn class_of(w: u64) -> Class
-    ensures { λ r. ⌜ r ≡ classOf w ⌝ }
-{
-    if w == 0 {
-        return Class::A;
-    }
-    Class::B
-}
 
 // Two's complement.
 fn signed_of(w: u64) -> i64
@@ -81,33 +58,6 @@ fn signed_of(w: u64) -> i64
         return w as i64;
     }
     -1 - (18_446_744_073_709_551_615 - w) as i64
-}
-
-// Behind the mark stands a period or a rate.
-fn pace_at(s: &[u8], k: usize) -> Pace
-    requires { ⌜ k + paceWidth ≤ recordWidth ⌝ }
-    ensures { λ r. ⌜ r ≡ paceAt (now (s .entry)) k ⌝ }
-{
-    let value = u32_at(s, k + 1);
-    if word(s, k) == 1 {
-        let samples = u8_at(s, k + 2);
-        return Pace::Rated(samples, value);
-    }
-    Pace::Period(value)
-}
-
-fn row_at(s: &[u8], k: usize) -> Row
-    requires { ⌜ k + rowWidth ≤ recordWidth ⌝ }
-    ensures { λ r. ⌜ r ≡ rowAt (now (s .entry)) k ⌝ }
-{
-    let class = class_of(word(s, k));
-    let pace = pace_at(s, k + 3);
-    Row {
-        class,
-        payload: u16_at(s, k + 1),
-        pace,
-        deadline: u32_at(s, k + 2),
-    }
 }
 
 pub fn frame_at(s: &[u8], k: usize) -> Frame
@@ -131,6 +81,18 @@ fn last_at(s: &[u8], k: usize) -> Last
             known: true,
             taken: word(s, k + 1),
         };
+    }
+    zero_last()
+}
+
+// That of number i. An empty number has none, whatever its words hold.
+fn mark_at(s: &[u8], i: usize) -> Last
+    requires { ⌜ i < mostRows ⌝ }
+    ensures { λ r. ⌜ r ≡ lastOf (cond (isThere (rowAt (now (s .entry)) (rowsStart + rowWidth * i))) (instantAt (now (s .entry)) (lastStart + lastWidth * i)) never) ⌝ }
+{
+    let row = row_at(s, ROWS_START + ROW_WIDTH * i);
+    if is_there(row) {
+        return last_at(s, LAST_START + LAST_WIDTH * i);
     }
     zero_last()
 }
@@ -237,18 +199,32 @@ fn best_at(s: &[u8], k: usize) -> BestQueue
     BestQueue { count, frames }
 }
 
-// The instants of the first n rows, zeros behind them.
+// The last instants of the first n numbers, zeros behind them.
 fn lasts_at(s: &[u8], n: usize) -> [Last; ROWS]
     requires { ⌜ n ≤ mostRows ⌝ }
-    ensures { λ r. ⌜ r ≡ placed mostRows zeroLast (map lastOf (gathered (instantAt (now (s .entry))) lastWidth lastStart n)) ⌝ }
+    ensures { λ r. ⌜ r ≡ placed mostRows zeroLast (map lastOf (instantsFor (gathered (rowAt (now (s .entry))) rowWidth rowsStart n) (gathered (instantAt (now (s .entry))) lastWidth lastStart n))) ⌝ }
 {
     let mut lasts = [zero_last(); ROWS];
     let mut i: usize = 0;
     while i < n {
-        lasts[i] = last_at(s, LAST_START + LAST_WIDTH * i);
+        lasts[i] = mark_at(s, i);
         i += 1;
     }
     lasts
+}
+
+// The bounds of the first n numbers, zeros behind them.
+fn bounds_at(s: &[u8], n: usize) -> [u64; ROWS]
+    requires { ⌜ n ≤ mostRows ⌝ }
+    ensures { λ r. ⌜ r ≡ placed mostRows 0 (gathered (wordAt (now (s .entry))) boundWidth boundsStart n) ⌝ }
+{
+    let mut bounds: [u64; ROWS] = [0; ROWS];
+    let mut i: usize = 0;
+    while i < n {
+        bounds[i] = word(s, BOUNDS_START + BOUND_WIDTH * i);
+        i += 1;
+    }
+    bounds
 }
 
 fn wire_at(s: &[u8]) -> Wire
@@ -272,9 +248,11 @@ fn port_of(s: &[u8]) -> Port
     let b = queue_at(s, QUEUEB_START);
     let best = best_at(s, BEST_START);
     let last = lasts_at(s, table.count);
+    let bounds = bounds_at(s, table.count);
     let wire = wire_at(s);
     Port {
         table,
+        bounds,
         clock: word(s, CLOCK_START),
         credita: signed_of(word(s, CLOCK_START + 1)),
         creditb: signed_of(word(s, CLOCK_START + 2)),
@@ -310,6 +288,7 @@ fn no_port() -> Port
     };
     Port {
         table,
+        bounds: [0; ROWS],
         clock: 0,
         credita: 0,
         creditb: 0,

@@ -1,41 +1,31 @@
 -- The words of a port's parts, stored one behind the other.
-use Prim.Native.Nat.{ℕ, suc, zero, _+_, _-_, _≤_, _<_, min}
-use mathlib.Core.Bool.{Bool, true, false}
-use mathlib.Core.List.{List, [], _∷_, _++_, map, append-nil}
+use Prim.Native.Nat.{ℕ, _+_, _-_, _≤_, _<_, min}
+use mathlib.Core.Bool.{Bool, true, false, cond}
+use mathlib.Core.List.{List, [], _∷_, _++_, append-nil}
 use mathlib.Core.Path.{_≡_, refl, sym, _∙_, ap}
 use native.Mathlib.Omega.{arith}
 use lib.Dec.{leb}
-use lib.ListN.{length, take, replicate, length-take, length-map}
+use lib.ListN.{length, getD, take, replicate, length-take}
 use lib.Seq.{take-all, take-at}
 use borrow.Author.Tests.{le-leb, lt-leb, leb-true, leb-false}
-use Rattle.table.specs.declared.Pace.{Pace}
-use Rattle.table.specs.declared.Pace.the-variants.{Period, Rated}
 use Rattle.table.specs.declared.Row.{Row}
 use Rattle.table.specs.declared.Table.{Table}
 use Rattle.table.specs.Limits.{mostRows}
-use Rattle.table.specs.Rows.{noRow, rowsOf, contents}
-use Rattle.table.proofs.Laws.{rows-length}
+use Rattle.table.specs.Rows.{noRow, isThere, rowsOf, contents}
+use Rattle.table.proofs.Laws.{rows-length, row-in-place}
 use Rattle.machine.specs.declared.Frame.{Frame}
 use Rattle.machine.specs.declared.Last.{Last}
 use Rattle.machine.specs.declared.Port.{Port}
 use Rattle.machine.specs.Limits.{classPlaces, bestPlaces}
-use Rattle.machine.specs.State.{never, noFrame, waiting, instantOf, instantsOf, view}
-use Rattle.machine.proofs.Places.{waiting-length}
-use Rattle.words.specs.Words.{stored, spread}
-use Rattle.words.proofs.Laws.{more, two, four}
-use Rattle.recordbytes.specs.Layout.{version, headStart, rowsStart, clockStart, queueaStart, queuebStart, bestStart, lastStart, wireStart, idleaPlace, idlebPlace, payloadPlace, countPlace, rowWidth, frameWidth, lastWidth, recordSize}
-use Rattle.recordbytes.specs.Record.{classWord, signedWord, headWords, paceWords, rowWords, frameWords, lastWords, wireWords, tableOver, queueOver, recordOver}
-use Rattle.recordwrite.specs.Written.{written}
-
-module _ (s : List ℕ) (k : ℕ) where
-  pub period-put : {p : Pace} {n : ℕ} {l t : List ℕ} → p ≡ Period n → l ≡ stored s k (0 ∷ []) → t ≡ stored l (k + 1) (n ∷ []) → t ≡ stored s k (paceWords p)
-  period-put {n = n} z e f = rw z (two s k 0 n e f)
-
-  pub rated-put : {p : Pace} {n m : ℕ} {t : List ℕ} → p ≡ Rated m n → t ≡ stored s k (1 ∷ n ∷ m ∷ []) → t ≡ stored s k (paceWords p)
-  rated-put z e = rw z e
-
-  pub row-put : (r : Row) {w : ℕ} {l t : List ℕ} → w ≡ classWord (r .class) → l ≡ stored s k (w ∷ r .payload ∷ r .deadline ∷ []) → t ≡ stored l (k + 3) (paceWords (r .pace)) → t ≡ stored s k (rowWords r)
-  row-put r {w} z e f = rw z at (more s k (w ∷ r .payload ∷ r .deadline ∷ []) (paceWords (r .pace)) e refl f)
+use Rattle.machine.specs.State.{Instant, never, noFrame, zeroLast, waiting, instantOf, instantsOf, keptOf, view}
+use Rattle.machine.proofs.Places.{waiting-length, instant-at}
+use Rattle.words.specs.Words.{flat, stored, spread}
+use Rattle.words.proofs.Laws.{more, four}
+use Rattle.rowbytes.specs.Row.{rowWidth, rowWords}
+use Rattle.recordbytes.specs.Layout.{version, headStart, rowsStart, clockStart, queueaStart, queuebStart, bestStart, wireStart, idleaPlace, idlebPlace, payloadPlace, countPlace, frameWidth, recordSize}
+use Rattle.recordbytes.specs.Record.{signedWord, headWords, frameWords, lastWords, marked, markedWords, wireWords, tableOver, queueOver, lastsOver, boundsOver, recordOver}
+use Rattle.recordbytes.proofs.Laws.{marked-length, marked-at}
+use Rattle.recordwrite.specs.Written.{written, patched}
 
 pub head-put : (s : List ℕ) (x : Table) {l t u v z : List ℕ} → l ≡ stored s headStart (version ∷ []) → t ≡ stored l idleaPlace (x .header .idlea ∷ []) → u ≡ stored t idlebPlace (x .header .idleb ∷ []) → v ≡ stored u payloadPlace (x .header .payload ∷ []) → z ≡ stored v countPlace (x .count ∷ []) → z ≡ stored s headStart (headWords (contents x))
 head-put s x e f g h i =
@@ -62,26 +52,46 @@ pub rows-placed : (t : Table) → length (t .rows) ≡ mostRows → take (min (t
 unfolding rowsOf
 rows-placed t long = in-places noRow (t .count) mostRows (t .rows) long
 
-take-map : {X Y : Type 0} (f : X → Y) (n : ℕ) (xs : List X) → take n (map f xs) ≡ map f (take n xs)
-take-map f zero xs = refl
-take-map f (suc n) [] = refl
-take-map {Y = Y} f (suc n) (x ∷ xs) = ap (λ (ys : List Y). f x ∷ ys) (take-map f n xs)
+pub bounds-placed : (n : ℕ) (bs : List ℕ) → length bs ≡ mostRows → take (min n mostRows) bs ≡ take mostRows (keptOf n bs)
+unfolding keptOf
+bounds-placed n bs long = in-places 0 n mostRows bs long
 
-spread-map : {X Y : Type 0} (f : Y → List ℕ) (g : X → Y) (size k : ℕ) (xs : List X) (s : List ℕ) → spread (λ x. f (g x)) size k xs s ≡ spread f size k (map g xs) s
-unfolding spread
-spread-map f g size k [] s = refl
-spread-map f g size k (x ∷ xs) s = spread-map f g size (k + size) xs (stored s k (f (g x)))
+-- ---- the last instants of numbers in use
+module _ (s : List ℕ) (k : ℕ) (r : Row) (i : Instant) where
+  pub mark-put : {t : List ℕ} → isThere r ≡ true → t ≡ stored s k (lastWords i) → t ≡ stored s k (markedWords (r, i))
+  mark-put e f = f ∙ rw e refl
 
--- the words of a row's last instant
-abbrev pub instantWords : Last → List ℕ
-instantWords l = lastWords (instantOf l)
+  pub no-mark : isThere r ≡ false → s ≡ stored s k (markedWords (r, i))
+  unfolding stored flat
+  no-mark e = rw e refl
 
-pub lasts-put : (n : ℕ) (ls : List Last) (s : List ℕ) {t : List ℕ} → length ls ≡ mostRows → t ≡ spread instantWords lastWidth lastStart (take (min n mostRows) ls) s → t ≡ spread lastWords lastWidth lastStart (take mostRows (instantsOf n ls)) s
-lasts-put n ls s long e =
-    let m : length (map instantOf ls) ≡ length ls = length-map ls instantOf in
-    let p : take (min n mostRows) (map instantOf ls) ≡ take mostRows (take n (map instantOf ls) ++ replicate (n - length (map instantOf ls)) never) = in-places never n mostRows (map instantOf ls) (m ∙ long) in
-    let q : map instantOf (take (min n mostRows) ls) ≡ take mostRows (instantsOf n ls) = sym (take-map instantOf (min n mostRows) ls) ∙ p ∙ rw (take-map instantOf n ls, m) refl in
-    e ∙ spread-map lastWords instantOf lastWidth lastStart (take (min n mostRows) ls) s ∙ rw q refl
+module _ (t : Table) (ls : List Last) where
+  abbrev pub marks : List (Row × Instant)
+  marks = marked (rowsOf t) (instantsOf (rowsOf t) ls)
+
+  pub marks-length : length marks ≡ t .count
+  marks-length = marked-length (rowsOf t) (instantsOf (rowsOf t) ls) ∙ rows-length t
+
+  pub mark-at : length (t .rows) ≡ mostRows → (i : ℕ) → i < t .count → i < mostRows → markedWords (getD (t .rows) i noRow, instantOf (getD ls i zeroLast)) ≡ markedWords (getD marks i (noRow, never))
+  mark-at long i h g =
+      rw (marked-at (rowsOf t) (instantsOf (rowsOf t) ls) i (rw (rows-length t) h), row-in-place t long i h g) (go (isThere (getD (t .rows) i noRow)) refl)
+    where
+      go : (b : Bool) → isThere (getD (t .rows) i noRow) ≡ b → cond b (lastWords (instantOf (getD ls i zeroLast))) [] ≡ cond b (lastWords (getD (instantsOf (rowsOf t) ls) i never)) []
+      go true e = sym (ap lastWords (instant-at (rowsOf t) ls i (rw (row-in-place t long i h g) e)))
+      go false e = refl
+
+  -- as many numbers as have a place
+  pub marks-placed : take (min (t .count) mostRows) marks ≡ take mostRows marks
+  marks-placed = go (leb (t .count) mostRows) refl
+    where
+      go : (b : Bool) → leb (t .count) mostRows ≡ b → take (min (t .count) mostRows) marks ≡ take mostRows marks
+      go true e =
+          let h : t .count ≤ mostRows = leb-true (t .count) mostRows e in
+          take-all (min (t .count) mostRows) marks (omega (arith, marks-length)) ∙ sym (take-all mostRows marks (omega (arith, marks-length)))
+      go false e =
+          let h : mostRows < t .count = leb-false (t .count) mostRows e in
+          let least : min (t .count) mostRows ≡ mostRows = omega arith in
+          rw least refl
 
 pub table-put : (t : Table) (s : List ℕ) {l u : List ℕ} → l ≡ stored s headStart (headWords (contents t)) → u ≡ spread rowWords rowWidth rowsStart (take mostRows (rowsOf t)) l → u ≡ tableOver (contents t) s
 unfolding tableOver
@@ -100,8 +110,22 @@ pub written-fits : (s : List ℕ) (p : Port) → recordSize ≤ length s → wri
 unfolding written
 written-fits s p h = rw (le-leb recordSize (length s) h) refl
 
-pub record-put : (s : List ℕ) (p : Port) → recordSize ≤ length s → {b2 b3 b4 b5 b6 b7 b8 : List ℕ} → b2 ≡ tableOver (contents (p .table)) s
+pub record-put : (s : List ℕ) (p : Port) → recordSize ≤ length s → {b2 b3 b4 b5 b6 b7 b8 b9 : List ℕ} → b2 ≡ tableOver (contents (p .table)) s
     → b3 ≡ stored b2 clockStart (p .clock ∷ signedWord (p .credita) ∷ signedWord (p .creditb) ∷ []) → b4 ≡ queueOver queueaStart classPlaces (waiting (p .a .count) (p .a .frames)) b3 → b5 ≡ queueOver queuebStart classPlaces (waiting (p .b .count) (p .b .frames)) b4
-    → b6 ≡ queueOver bestStart bestPlaces (waiting (p .best .count) (p .best .frames)) b5 → b7 ≡ spread lastWords lastWidth lastStart (take mostRows (instantsOf (p .table .count) (p .last))) b6 → b8 ≡ stored b7 wireStart (wireWords (p .wire)) → b8 ≡ written p s
+    → b6 ≡ queueOver bestStart bestPlaces (waiting (p .best .count) (p .best .frames)) b5 → b7 ≡ lastsOver (rowsOf (p .table)) (instantsOf (rowsOf (p .table)) (p .last)) b6 → b8 ≡ boundsOver (keptOf (p .table .count) (p .bounds)) b7
+    → b9 ≡ stored b8 wireStart (wireWords (p .wire)) → b9 ≡ written p s
 unfolding recordOver view
-record-put s p h e2 e3 e4 e5 e6 e7 e8 = e8 ∙ rw (e7, e6, e5, e4, e3, e2) (sym (written-fits s p h))
+record-put s p h e2 e3 e4 e5 e6 e7 e8 e9 = e9 ∙ rw (e8, e7, e6, e5, e4, e3, e2) (sym (written-fits s p h))
+
+-- ---- a table, its last instants and its bounds
+module _ (s : List ℕ) (t : Table) (last : List Last) (bounds : List ℕ) where
+  pub no-patch : length s < recordSize → s ≡ patched t last bounds s
+  unfolding patched
+  no-patch h = rw (lt-leb recordSize (length s) h) refl
+
+  pub patched-fits : recordSize ≤ length s → patched t last bounds s ≡ boundsOver (keptOf (t .count) bounds) (lastsOver (rowsOf t) (instantsOf (rowsOf t) last) (tableOver (contents t) s))
+  unfolding patched
+  patched-fits h = rw (le-leb recordSize (length s) h) refl
+
+  pub patch-put : recordSize ≤ length s → {b2 b3 b4 : List ℕ} → b2 ≡ tableOver (contents t) s → b3 ≡ lastsOver (rowsOf t) (instantsOf (rowsOf t) last) b2 → b4 ≡ boundsOver (keptOf (t .count) bounds) b3 → b4 ≡ patched t last bounds s
+  patch-put h e2 e3 e4 = e4 ∙ rw (e3, e2) (sym (patched-fits h))

@@ -6,16 +6,19 @@ ghost use Rattle.words.specs.Words.{stored, spread};
 ghost use Rattle.table.specs.Limits.{mostRows};
 ghost use Rattle.table.specs.Rows.{rowsOf, contents};
 ghost use Rattle.machine.specs.Limits.{classPlaces, bestPlaces};
-ghost use Rattle.machine.specs.State.{waiting, instantsOf};
-ghost use Rattle.recordbytes.specs.Layout.{headStart, rowsStart, lastStart, paceWidth, rowWidth, frameWidth, lastWidth, recordSize};
-ghost use Rattle.recordbytes.specs.Record.{classWord, headWords, paceWords, rowWords, lastWords, tableOver, queueOver};
-ghost use Rattle.recordwrite.specs.Written.{written};
+ghost use Rattle.machine.specs.State.{waiting, instantOf, instantsOf, keptOf};
+ghost use Rattle.rowbytes.specs.Row.{rowWidth, rowWords};
+ghost use Rattle.recordbytes.specs.Layout.{headStart, rowsStart, frameWidth, lastWidth, recordSize};
+ghost use Rattle.recordbytes.specs.Record.{headWords, markedWords, tableOver, queueOver, lastsOver, boundsOver};
+ghost use Rattle.recordwrite.specs.Written.{written, patched};
 use machine::BEST_PLACES;
 use machine::BestQueue;
 use machine::Last;
 use machine::Port;
 use machine::Queue;
 use recordbytes::BEST_START;
+use recordbytes::BOUND_WIDTH;
+use recordbytes::BOUNDS_START;
 use recordbytes::COUNT_PLACE;
 use recordbytes::FRAME_WIDTH;
 use recordbytes::HEAD_START;
@@ -27,36 +30,26 @@ use recordbytes::PAYLOAD_PLACE;
 use recordbytes::QUEUEA_START;
 use recordbytes::QUEUEB_START;
 use recordbytes::RECORD_SIZE;
-use recordbytes::ROW_WIDTH;
 use recordbytes::ROWS_START;
 use recordbytes::VERSION;
 use recordparts::parts::put_frame;
 use recordparts::parts::put_last;
 use recordparts::parts::put_numbers;
-use recordparts::parts::put_three;
 use recordparts::parts::put_wire;
-use recordparts::parts::put_word;
+use rowbytes::ROW_WIDTH;
+use rowbytes::write::put_row;
+use rowbytes::write::put_word;
 use table::CLASS_PLACES;
-use table::Class;
-use table::Pace;
 use table::ROWS;
 use table::Row;
 use table::Table;
+use table::rows::is_there;
 
 // How many of n things have a place.
 fn placed(n: usize, places: usize) -> usize
     ensures { λ r. ⌜ r ≡ min n places ⌝ }
 {
     if n < places { n } else { places }
-}
-
-fn class_word(class: Class) -> u64
-    ensures { λ r. ⌜ r ≡ classWord class ⌝ }
-{
-    match class {
-        Class::A => 0,
-        Class::B => 1,
-    }
 }
 
 // The version, the header and the row count.
@@ -69,38 +62,6 @@ fn put_head(out: &mut [u8], t: Table)
     put_word(out, IDLEB_PLACE, t.header.idleb as u64);
     put_word(out, PAYLOAD_PLACE, t.header.payload as u64);
     put_word(out, COUNT_PLACE, t.count as u64);
-}
-
-// A pace's mark, and its period, or its rate and samples.
-fn put_pace(out: &mut [u8], k: usize, pace: Pace)
-    requires { ⌜ 8 * (k + paceWidth) ≤ length (now out) ⌝ }
-    ensures { λ _. ⌜ now (out .exit) ≡ stored (now (out .entry)) k (paceWords pace) ⌝ }
-{
-    match pace {
-        Pace::Period(period) => {
-            put_word(out, k, 0);
-            put_word(out, k + 1, period as u64);
-        }
-        Pace::Rated(samples, rate) => {
-            put_three(out, k, 1, rate as u64, samples as u64);
-        }
-    }
-}
-
-fn put_row(out: &mut [u8], k: usize, row: Row)
-    requires { ⌜ 8 * (k + rowWidth) ≤ length (now out) ⌝ }
-    ensures { λ _. ⌜ now (out .exit) ≡ stored (now (out .entry)) k (rowWords row) ⌝ }
-{
-    let class = row.class;
-    put_three(
-        out,
-        k,
-        class_word(class),
-        row.payload as u64,
-        row.deadline as u64,
-    );
-    let pace = row.pace;
-    put_pace(out, k + 3, pace);
 }
 
 fn put_rows(out: &mut [u8], t: Table)
@@ -149,15 +110,37 @@ fn put_best(out: &mut [u8], k: usize, q: BestQueue)
     }
 }
 
-// The instants of the first `count` rows.
-fn put_lasts(out: &mut [u8], lasts: [Last; ROWS], count: usize)
+// The last instant of a number in use. Of an empty number nothing is stored.
+fn put_mark(out: &mut [u8], k: usize, row: Row, last: Last)
+    requires { ⌜ 8 * (k + lastWidth) ≤ length (now out) ⌝ }
+    ensures { λ _. ⌜ now (out .exit) ≡ stored (now (out .entry)) k (markedWords (row, instantOf last)) ⌝ }
+{
+    if is_there(row) {
+        put_last(out, k, last);
+    }
+}
+
+fn put_lasts(out: &mut [u8], t: Table, lasts: [Last; ROWS])
     requires { ⌜ recordSize ≤ length (now out) ⌝ }
-    ensures { λ _. ⌜ now (out .exit) ≡ spread lastWords lastWidth lastStart (take mostRows (instantsOf count lasts)) (now (out .entry)) ⌝ }
+    ensures { λ _. ⌜ now (out .exit) ≡ lastsOver (rowsOf t) (instantsOf (rowsOf t) lasts) (now (out .entry)) ⌝ }
+{
+    let n = placed(t.count, ROWS);
+    let mut i: usize = 0;
+    while i < n {
+        put_mark(out, LAST_START + LAST_WIDTH * i, t.rows[i], lasts[i]);
+        i += 1;
+    }
+}
+
+// The bounds of the first `count` numbers.
+fn put_bounds(out: &mut [u8], bounds: [u64; ROWS], count: usize)
+    requires { ⌜ recordSize ≤ length (now out) ⌝ }
+    ensures { λ _. ⌜ now (out .exit) ≡ boundsOver (keptOf count bounds) (now (out .entry)) ⌝ }
 {
     let n = placed(count, ROWS);
     let mut i: usize = 0;
     while i < n {
-        put_last(out, LAST_START + LAST_WIDTH * i, lasts[i]);
+        put_word(out, BOUNDS_START + BOUND_WIDTH * i, bounds[i]);
         i += 1;
     }
 }
@@ -179,7 +162,21 @@ pub fn write_record(out: &mut [u8], p: Port)
     let best = p.best;
     put_best(out, BEST_START, best);
     let last = p.last;
-    put_lasts(out, last, table.count);
+    put_lasts(out, table, last);
+    let bounds = p.bounds;
+    put_bounds(out, bounds, table.count);
     let wire = p.wire;
     put_wire(out, wire);
+}
+
+// Of a port its table, its last instants and its bounds: what a join or a leave changes. Where a record finds no room nothing is written.
+pub fn write_patch(out: &mut [u8], t: Table, last: [Last; ROWS], bounds: [u64; ROWS])
+    ensures { λ _. ⌜ now (out .exit) ≡ patched t last bounds (now (out .entry)) ⌝ }
+{
+    if out.len() < RECORD_SIZE {
+        return;
+    }
+    put_table(out, t);
+    put_lasts(out, t, last);
+    put_bounds(out, bounds, t.count);
 }

@@ -21,9 +21,13 @@ use effects::records::settled;
 use machine::Change;
 use machine::Last;
 use machine::Port;
+use patches::patches::carried;
 use record::check::is_sound;
 use turns::opened::open_file;
 use turns::turn::effect;
+use turns::turn::is_patch;
+use turns::turn::patch;
+use turns::turn::reply_of;
 
 // The call of number i.
 fn asked_at(calls: &[u8], i: usize) -> Asked
@@ -80,6 +84,16 @@ fn steps(port: Port, calls: &[u8], out: &mut [u8])
         let asked = asked_at(calls, i);
         let at = ANSWER_SIZE * i;
         let whole = is_sound(p);
+        if is_patch(asked) {
+            let x = patch(p, whole, asked);
+            let given = x.answer;
+            let reply = reply_of(given);
+            write_reply(&mut out[at..], reply);
+            let q = carried(p, x);
+            p = q;
+            i += 1;
+            continue;
+        }
         let e = effect(p, whole, asked);
         let reply = e.reply;
         write_reply(&mut out[at..], reply);

@@ -2,16 +2,19 @@
 use Prim.Native.Nat.{ℕ}
 use mathlib.Core.List.{List, [], _∷_, _++_, append-assoc, append-nil}
 use mathlib.Core.Path.{_≡_, refl, sym, _∙_}
+use Rattle.table.specs.declared.Table.{Table}
 use Rattle.table.specs.Rows.{Contents, contents}
 use Rattle.table.specs.Checks.{accepted}
 use Rattle.tablefile.specs.Reading.{readFile}
 use Rattle.machine.specs.declared.Port.{Port}
 use Rattle.machine.specs.State.{State, fresh, view}
 use Rattle.machine.specs.Calls.{Call, answer}
-use Rattle.machine.specs.Run.{machine, answered, Run}
+use Rattle.machine.specs.Run.{machine, answered, Run, SameTable}
 use Rattle.machine.proofs.EveryList.{every-list, every-list-ran}
 use Rattle.codes.specs.Codes.{fileCheck}
 use Rattle.codes.proofs.Laws.{opened-accepted}
+use Rattle.texts.specs.declared.lines.Call as lines
+use Rattle.texts.specs.declared.lines.Call.the-variants.{Offer, Best, Advance}
 use Rattle.texts.specs.declared.lines.Line.{Line}
 use Rattle.texts.specs.declared.lines.Line.the-variants.{Empty}
 use Rattle.texts.specs.declared.lines.Stepped.{Stepped}
@@ -48,6 +51,31 @@ module _ (t : Contents) where
   same [] l cs = record { text = append-nil (textOf (answered t cs)); state = refl }
   same (b ∷ bytes) l cs = same-step bytes (same bytes) l cs (stepOf l b)
 
+-- ---- no row joins or leaves, so the table's record stays
+module _ (t u : Table) where
+  Kept : List Call → Type 0
+  Kept cs = SameTable t (answered (contents t) cs) u
+
+  KeptBehind : List ℕ → Type 0
+  KeptBehind bytes = (l : Line) (cs : List Call) → Kept cs → Kept (callsFrom bytes l cs)
+
+  kept-call : (c : lines.Call) (cs : List Call) → Kept cs → Kept (callOf c ∷ cs)
+  unfolding Kept
+  kept-call (Offer row payload) cs k = k
+  kept-call (Best payload) cs k = k
+  kept-call (Advance n) cs k = k
+
+  kept-step : (bytes : List ℕ) → KeptBehind bytes → (cs : List Call) (r : Stepped) → Kept cs → Kept (onCall (callsFrom bytes) cs r)
+  unfolding KeptBehind
+  kept-step bytes rest cs (More next) k = rest next cs k
+  kept-step bytes rest cs (Whole c) k = rest Empty (callOf c ∷ cs) (kept-call c cs k)
+  kept-step bytes rest cs Other k = k
+
+  kept : (bytes : List ℕ) → KeptBehind bytes
+  unfolding KeptBehind callsFrom
+  kept [] l cs k = k
+  kept (b ∷ bytes) l cs k = kept-step bytes (kept bytes) cs (stepOf l b) k
+
 -- ---- a table file, and what was read
 of-file : (file bytes : List ℕ) → SameAs (contents (readFile file .table)) [] (callsFrom bytes Empty []) (told bytes (fresh (contents (readFile file .table))) Empty)
 unfolding Same
@@ -67,4 +95,5 @@ every-refusal file bytes number place e = rw e refl
 
 -- The record that the bytes have led to is one that the run leads to.
 pub run-to : (file bytes : List ℕ) → fileCheck file ≡ accepted → (p : Port) → view p ≡ prints file bytes .state → p .table ≡ readFile file .table → Run (readFile file .table) (eventsOf file bytes) p
-run-to file bytes e p v f = every-list (readFile file .table) (opened-accepted file e .1) (callsFrom bytes Empty []) p (v ∙ rw e (of-file file bytes .state)) f
+unfolding Kept KeptBehind
+run-to file bytes e p v f = every-list (readFile file .table) (opened-accepted file e .1) (callsFrom bytes Empty []) p (v ∙ rw e (of-file file bytes .state)) (kept (readFile file .table) (p .table) bytes Empty [] f)

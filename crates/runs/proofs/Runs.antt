@@ -9,8 +9,9 @@ use lib.ListN.{length, drop, getD, drop-of-length-le}
 use lib.Seq.{drop-cons}
 use Rattle.table.specs.declared.Table.{Table}
 use Rattle.machine.specs.State.{State, view}
-use Rattle.machine.specs.Calls.{answer, after}
+use Rattle.machine.specs.Calls.{Answer, answer, after, patches, KeepsTable}
 use Rattle.texts.specs.declared.lines.Call.{Call}
+use Rattle.texts.specs.declared.lines.Call.the-variants.{Offer, Best, Advance}
 use Rattle.texts.specs.declared.lines.Line.{Line}
 use Rattle.texts.specs.declared.lines.Line.the-variants.{Empty}
 use Rattle.texts.specs.declared.lines.Stepped.{Stepped}
@@ -34,6 +35,12 @@ next-byte b bytes s l = refl
 
 printed-both : (t u : List ℕ) (r : Told) → printed t (printed u r) ≡ printed (t ++ u) r
 printed-both t u r = rw append-assoc
+
+-- The calls of an input change no table.
+same-table : (c : Call) (a : Answer) {t u : Table} → KeepsTable (patches (callOf c) a) t u → u ≡ t
+same-table (Offer row payload) a k = k
+same-table (Best payload) a k = k
+same-table (Advance n) a k = k
 
 -- What is told, where its text stands at the front of a buffer.
 shown : {u : Told} {t : Table} {text buffer out : List ℕ} {at : ℕ} (port : Port) (line : Line) (live : Bool) → record { text = text; state = view port; line = line; live = live } ≡ u → port .table ≡ t → length text ≤ length buffer → at ≡ length text → out ≡ putAt text 0 buffer → Shows u t buffer out (record { run = record { port = port; line = line; live = live }; count = at })
@@ -91,7 +98,7 @@ module _ (bytes : List ℕ) (first : Port) (begun : Line) (buffer : List ℕ) (r
             count = long;
             put = f ∙ rw (so .count, so .put) (put-behind (so .text) line buffer all-fit);
             left = y ∙ printed-both (so .text) (lineOf (answerOf (answer (view port) (callOf c)))) rest ∙ rw (made .answer, made .gives .port);
-            table = made .gives .table ∙ so .table;
+            table = same-table c (answer (view port) (callOf c)) (made .gives .table) ∙ so .table;
           }
 
 later : (t : List ℕ) (r rest : Told) (b : Bool) → printed t (cond b (printed (r .text) rest) r) ≡ cond b (printed (t ++ r .text) rest) (printed t r)

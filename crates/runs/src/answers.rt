@@ -11,6 +11,7 @@ use machine::NO_MARK;
 use machine::Offer;
 use machine::Port;
 use machine::numbers::number;
+use machine::numbers::place;
 use texts::lines::Call;
 use texts::text::Answer;
 
@@ -35,7 +36,7 @@ fn offered(o: Offer) -> Answer
 {
     match o {
         Offer::Taken => Answer::Passed(0, NO_MARK as u64),
-        Offer::Refused(d) => Answer::Refused(number(d), 0),
+        Offer::Refused(d) => Answer::Refused(number(d), place(d) as u64),
     }
 }
 
@@ -44,7 +45,7 @@ fn advanced(a: Advance) -> Answer
 {
     match a {
         Advance::Passed(n, ended) => Answer::Passed(n, row(ended)),
-        Advance::Refused(d) => Answer::Refused(number(d), 0),
+        Advance::Refused(d) => Answer::Refused(number(d), place(d) as u64),
     }
 }
 

@@ -1,6 +1,6 @@
 -- A port kept as bytes, and the list of calls that has led to it.
 use Prim.Native.Nat.{ℕ, _≤_, _<_}
-use mathlib.Core.Bool.{true, false, true≢false, false≢true}
+use mathlib.Core.Bool.{Bool, true, false, true≢false, false≢true}
 use mathlib.Core.List.{List, [], _∷_}
 use mathlib.Core.Path.{_≡_, refl, sym, _∙_, ap}
 use native.Mathlib.Omega.{arith}
@@ -15,6 +15,9 @@ use Rattle.planner.proofs.Laws.{accepted-if}
 use Rattle.tablefile.specs.Reading.{readFile}
 use Rattle.tablefile.proofs.Laws.{read-filled}
 use Rattle.machine.specs.declared.Port.{Port}
+use Rattle.machine.specs.declared.Offer.{Offer}
+use Rattle.machine.specs.declared.Offer.the-variants as offers
+use Rattle.machine.specs.declared.Patch.{Patch}
 use Rattle.machine.specs.declared.Reply.{Reply}
 use Rattle.machine.specs.declared.Reply.the-variants.{Taken, Passed, Refused}
 use Rattle.machine.specs.declared.Change.{Change}
@@ -23,8 +26,8 @@ use Rattle.machine.specs.declared.Effect.{Effect}
 use Rattle.machine.specs.Limits.{noMark}
 use Rattle.machine.specs.State.{State, fresh, view, portOf, Placed}
 use Rattle.machine.specs.Calls as machines
-use Rattle.machine.specs.Calls.{Call, Answer, taken, passed, denied, Keeps, Gives}
-use Rattle.machine.specs.Effects.{replyAnswer, changedBy, carriedOut, Room, Stays, StaysBy, Comes}
+use Rattle.machine.specs.Calls.{Call, Answer, taken, passed, denied, offerAnswer, Keeps, patches, KeepsTable, Gives}
+use Rattle.machine.specs.Effects.{replyAnswer, changedBy, carriedOut, Room, Stays, StaysBy, Comes, clearedAt, patchedBy, Patches}
 use Rattle.machine.specs.Run.{Event, event, Run, called}
 use Rattle.machine.proofs.Theorem.{every-run, run-placed}
 use Rattle.words.specs.Words.{Bytes, flat, wordBytes}
@@ -35,15 +38,18 @@ use Rattle.recordbytes.specs.Layout.{recordSize}
 use Rattle.recordbytes.specs.Record.{recordOver, stateOf, isRecord}
 use Rattle.recordbytes.specs.Fits.{Numbered, Fits}
 use Rattle.recordbytes.specs.Port.{tableFrom, portFrom, readRecord}
-use Rattle.recordbytes.proofs.Laws.{named-placed, long, placed-are, EffectFits, carried-fits}
+use Rattle.recordbytes.proofs.Laws.{named-placed, long, placed-are, EffectFits, carried-fits, over-patched}
 use Rattle.recordbytes.proofs.Trip.{reading-written, read-fits, same-parts}
-use Rattle.recordwrite.specs.Written.{written}
-use Rattle.recordwrite.proofs.Laws.{written-fits}
+use Rattle.recordwrite.specs.Written.{written, patched}
+use Rattle.recordwrite.proofs.Laws.{written-fits, patched-fits}
+use Rattle.callbytes.specs.declared.Asked.{Asked}
+use Rattle.callbytes.specs.declared.Asked.the-variants as asked
+use Rattle.callbytes.specs.declared.Asked.the-variants.{OfferBest, Advance, Join, Leave, Unreadable}
 use Rattle.callbytes.specs.Calls.{answerSize, readCall, isReadable, callOf, answerBytes, fronted, isDenied}
 use Rattle.callbytes.proofs.Laws.{answer-length, answer-fits}
 use Rattle.effects.proofs.Laws.{stays, carried-none, carries}
 use Rattle.turns.specs.declared.FilePort.{FilePort}
-use Rattle.turns.specs.Turns.{FileOpened}
+use Rattle.turns.specs.Turns.{FileOpened, isPatch}
 use Rattle.turns.proofs.Laws.{start}
 use Rattle.saved.specs.Saved.{Reached, openCheck, cleared, OpenedInto, callCheck, answerOn, bytesBy, bytesAfter, Called}
 
@@ -130,6 +136,25 @@ table-stays (JoinedA f) s = refl
 table-stays (JoinedB f) s = refl
 table-stays (JoinedBest f) s = refl
 
+table-by : (b : Bool) {t u : Table} → u ≡ t → KeepsTable b t u
+table-by true e = tt
+table-by false e = e
+
+refused-same : (p q : Port) (a : Answer) → isDenied a ≡ true → Keeps a p q → q ≡ p
+refused-same p q taken h k = absurd (false≢true h)
+refused-same p q (passed n x) h k = absurd (false≢true h)
+refused-same p q (denied n l) h k = k
+
+-- a join or a leave that is not refused has changed the table
+patch-made : (asked : Asked) (o : Offer) → isPatch asked ≡ true → isDenied (offerAnswer o) ≡ false → patches (callOf asked) (offerAnswer o) ≡ true
+patch-made (Join number row) offers.Taken p d = refl
+patch-made (Leave number) offers.Taken p d = refl
+patch-made asked (offers.Refused x) p d = absurd (true≢false d)
+patch-made (asked.Offer row payload) offers.Taken p d = absurd (false≢true p)
+patch-made (OfferBest payload) offers.Taken p d = absurd (false≢true p)
+patch-made (Advance n) offers.Taken p d = absurd (false≢true p)
+patch-made Unreadable offers.Taken p d = absurd (false≢true p)
+
 bytes-new : (a : Answer) (s : State) (old : List ℕ) → isDenied a ≡ false → bytesBy a s old ≡ recordOver s old
 bytes-new taken s old e = refl
 bytes-new (passed n x) s old e = refl
@@ -183,7 +208,7 @@ module _ (saved call before : List ℕ) where
               reached = λ _ t es h. absurd (true≢false (sym (h .record-bytes) ∙ bad));
             }
 
-        module _ (yes : r .readable ≡ true) {e : Effect} (comes : Comes (r .port) c e) {after : List ℕ} (put : after ≡ fronted (answerBytes (replyAnswer (e .reply))) before) where
+        module _ (yes : r .readable ≡ true) where
           good : isRecord saved ≡ true
           good = sym tested ∙ yes
 
@@ -195,42 +220,66 @@ module _ (saved call before : List ℕ) where
           parts : view (r .port) ≡ stateOf saved
           parts = ap view named ∙ same-parts (stateOf saved) (named-placed saved good)
 
-          abbrev a : Answer
-          a = replyAnswer (e .reply)
+          module _ (a : Answer) {after : List ℕ} (put : after ≡ fronted (answerBytes a) before) where
+            is : a ≡ machines.answer (view (r .port)) c → a ≡ answerOn saved c
+            unfolding answerOn
+            is told = told ∙ rw (good, ← parts) refl
 
-          is : a ≡ answerOn saved c
-          unfolding answerOn
-          is = comes .answer ∙ rw (good, ← parts) refl
+            longer : {t : Table} {es : List Event} {q : Port} → Reached t es saved → Gives (r .port) c a q → Run t (event c a ∷ es) q
+            longer h g = called (rw (← named) at (h .run)) g
 
-          longer : {t : Table} {es : List Event} {q : Port} → Reached t es saved → Gives (r .port) c a q → Run t (event c a ∷ es) q
-          longer h g = called (rw (← named) at (h .run)) g
+            stayed : isDenied a ≡ true → Gives (r .port) c a (r .port) → Called saved saved call before after 0
+            unfolding bytesAfter
+            stayed denial g =
+                let said = is (g .answer) in
+                record {
+                  code = rw ready refl;
+                  answer = answered a said put;
+                  port = rw (ready, ← said) (sym (bytes-old a _ saved denial));
+                  reached = λ _ t es h. rw (← said) (record { record-bytes = good; run = rw (← named) (longer h g); demand3 = rw (← named) (every-run t (event c a ∷ es) (r .port) (longer h g)) });
+                }
 
-          pub call-refused : isDenied a ≡ true → Called saved saved call before after 0
-          unfolding bytesAfter
-          call-refused denial =
-              let still = refused-stays (e .reply) (r .port) e denial (comes .kept) in
-              let g : Gives (r .port) c a (r .port) = carries comes (rw (stays (r .port) e still) at (carried-none (r .port) e (still .change))) in
-              record {
-                code = rw ready refl;
-                answer = answered a is put;
-                port = rw (ready, ← is) (sym (bytes-old a _ saved denial));
-                reached = λ _ t es h. rw (← is) (record { record-bytes = good; run = rw (← named) (longer h g); demand3 = rw (← named) (every-run t (event c a ∷ es) (r .port) (longer h g)) });
-              }
+            -- the port that is handed out for the new bytes is what the call gives
+            moved : {kept : List ℕ} (n : State) → isDenied a ≡ false → a ≡ machines.answer (view (r .port)) c → n ≡ machines.after (view (r .port)) c → kept ≡ recordOver n saved → KeepsTable (patches c a) (r .port .table) (portFrom n .table) → ((t : Table) (es : List Event) → Reached t es saved → Fits n) → Called saved kept call before after 0
+            unfolding bytesAfter
+            moved {kept} n on told next whole table fits =
+                let said = is told in
+                let gives : Fits n → Gives (r .port) c a (portFrom n) = λ f. record { answer = told; port = same-parts n (f .placed) ∙ next; table = table; kept = free _ _ a on } in
+                record {
+                  code = rw ready refl;
+                  answer = answered a said put;
+                  port = rw (ready, ← said) (whole ∙ (ap (λ (x : State). recordOver x saved) (rw parts at next) ∙ sym (bytes-new a _ saved on)));
+                  reached = λ _ t es h. let f = fits t es h in rw (← said, whole) (holds n saved f (long saved good) (longer h (gives f)));
+                }
 
-          -- the port that is handed out for the new bytes is what the call gives
-          pub call-done : {kept : List ℕ} → isDenied a ≡ false → Bytes saved → EffectFits e → (isRecord saved ≡ true → Room (e .change) (stateOf saved) → kept ≡ recordOver (carriedOut e (stateOf saved)) saved) → Called saved kept call before after 0
-          unfolding bytesAfter
-          call-done {kept} on b f w =
-              let n = carriedOut e (stateOf saved) in
-              let places : Room (e .change) (stateOf saved) = rw parts at (comes .room) in
-              let fits : Fits n = carried-fits (stateOf saved) (read-fits saved b good) e f places in
-              let whole : kept ≡ recordOver n saved = w good places in
-              let next : n ≡ machines.after (stateOf saved) c = rw parts at (comes .port) in
-              let table : portFrom n .table ≡ r .port .table = table-from n ∙ rw (table-stays (e .change) (stateOf saved), named) (sym (table-from (stateOf saved))) in
-              let g : Gives (r .port) c a (portFrom n) = record { answer = comes .answer; port = same-parts n (fits .placed) ∙ rw (← parts) (comes .port); table = table; kept = free _ _ a on } in
-              record {
-                code = rw ready refl;
-                answer = answered a is put;
-                port = rw (ready, ← is) (whole ∙ (ap (λ (x : State). recordOver x saved) next ∙ sym (bytes-new a _ saved on)));
-                reached = λ _ t es h. rw (← is, whole) (holds n saved fits (long saved good) (longer h g));
-              }
+          module _ {e : Effect} (comes : Comes (r .port) c e) {after : List ℕ} (put : after ≡ fronted (answerBytes (replyAnswer (e .reply))) before) where
+            abbrev a : Answer
+            a = replyAnswer (e .reply)
+
+            pub call-refused : isDenied a ≡ true → Called saved saved call before after 0
+            call-refused denial =
+                let still = refused-stays (e .reply) (r .port) e denial (comes .kept) in
+                stayed a put denial (carries comes (rw (stays (r .port) e still) at (carried-none (r .port) e (still .change))))
+
+            pub call-done : {kept : List ℕ} → isDenied a ≡ false → Bytes saved → EffectFits e → (isRecord saved ≡ true → Room (e .change) (stateOf saved) → kept ≡ recordOver (carriedOut e (stateOf saved)) saved) → Called saved kept call before after 0
+            call-done on b f w =
+                let n = carriedOut e (stateOf saved) in
+                let places : Room (e .change) (stateOf saved) = rw parts at (comes .room) in
+                let table : portFrom n .table ≡ r .port .table = table-from n ∙ rw (table-stays (e .change) (stateOf saved), named) (sym (table-from (stateOf saved))) in
+                moved a put n on (comes .answer) (rw (← parts) (comes .port)) (w good places) (table-by (patches c a) table) (λ t es h. carried-fits (stateOf saved) (read-fits saved b good) e f places)
+
+          -- a join or a leave
+          module _ (x : Patch) (g : Patches (r .port) c x) {after : List ℕ} (put : after ≡ fronted (answerBytes (offerAnswer (x .answer))) before) where
+            abbrev b : Answer
+            b = offerAnswer (x .answer)
+
+            abbrev q : Port
+            q = patchedBy x (r .port)
+
+            pub patch-refused : isDenied b ≡ true → Called saved saved call before after 0
+            patch-refused denial = stayed b put denial (rw (refused-same (r .port) q b denial (g .kept)) at g)
+
+            pub patch-done : {kept : List ℕ} → isPatch (readCall call) ≡ true → isDenied b ≡ false → Bytes saved → Numbered (view q) → kept ≡ patched (x .table) (clearedAt (x .cleared) (r .port .last)) (x .bounds) saved → Called saved kept call before after 0
+            patch-done patch on bytes small w =
+                let whole = w ∙ (patched-fits saved (x .table) _ (x .bounds) (long saved good) ∙ over-patched saved bytes good (r .port) x parts) in
+                moved b put (view q) on (g .answer) (g .port) whole (rw (patch-made (readCall call) (x .answer) patch on) tt) (λ t es h. record { placed = run-placed (longer b put h g); numbered = small })

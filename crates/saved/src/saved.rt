@@ -11,13 +11,18 @@ use callbytes::calls::is_readable;
 use callbytes::calls::read_call;
 use codes::code;
 use machine::NO_MARK;
+use patches::patches::without_last;
 use record::check::is_sound;
 use recordbytes::RECORD_SIZE;
 use recordchange::change::change_record;
 use recordread::read::read_record;
+use recordwrite::write::write_patch;
 use recordwrite::write::write_record;
 use turns::opened::open_file;
 use turns::turn::effect;
+use turns::turn::is_patch;
+use turns::turn::patch;
+use turns::turn::reply_of;
 
 // Zeros in as many bytes as a record has.
 fn clear(out: &mut [u8])
@@ -68,6 +73,20 @@ pub fn call(saved: &mut [u8], call: &[u8], answer: &mut [u8]) -> u64
     }
     let p = l.port;
     let whole = is_sound(p);
+    if is_patch(asked) {
+        let x = patch(p, whole, asked);
+        let given = x.answer;
+        let reply = reply_of(given);
+        let denied = write_reply(answer, reply);
+        if !denied {
+            let instants = p.last;
+            let last = without_last(instants, x.cleared);
+            let table = x.table;
+            let bounds = x.bounds;
+            write_patch(saved, table, last, bounds);
+        }
+        return 0;
+    }
     let e = effect(p, whole, asked);
     let reply = e.reply;
     let refused = write_reply(answer, reply);

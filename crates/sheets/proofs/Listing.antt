@@ -1,5 +1,6 @@
 -- An accepted table's sheet, row by row.
 use Prim.Native.Nat.{ℕ, suc, _+_, _*_, _≤_, _<_}
+use mathlib.Core.Bool.{true}
 use mathlib.Core.List.{List, _++_, append-assoc, append-nil}
 use mathlib.Core.Path.{_≡_, refl, sym, _∙_, ap}
 use native.Mathlib.Numerals.{add-one}
@@ -8,14 +9,14 @@ use lib.ListN.{length, take, drop, getD}
 use lib.Seq.{length-take-le}
 use Rattle.table.specs.declared.Table.{Table}
 use Rattle.table.specs.Limits.{mostRows}
-use Rattle.table.specs.Rows.{noRow, rowsOf, contents}
+use Rattle.table.specs.Rows.{noRow, isThere, rowsOf, contents}
 use Rattle.table.specs.Checks.{accepted}
-use Rattle.table.proofs.Laws.{rows-length, next-row, no-row, row-at, in-use}
+use Rattle.table.proofs.Laws.{every-at, rows-length, next-row, no-row, row-at, in-use}
 use Rattle.planner.specs.declared.Sheet.{Sheet}
 use Rattle.planner.specs.Bound.{bound}
 use Rattle.planner.specs.Opening.{opening}
 use Rattle.planner.specs.Plan.{Shown}
-use Rattle.planner.proofs.Laws.{accepted-if, bounds-row}
+use Rattle.planner.proofs.Laws.{accepted-if, opened-full, bounds-row}
 use Rattle.texts.specs.Text.{Put}
 use Rattle.sheets.specs.Sheet.{heading, rowLine, rowLines, textBy, mostText}
 
@@ -42,9 +43,13 @@ module _ (t : Table) (long : length (t .rows) ≡ 32) (ok : opening (contents t)
     abbrev line : List ℕ
     line = rowLine i (getD (t .rows) i noRow) (getD (sheet .bounds) i 0)
 
+    -- no number of a table that is opened is empty
+    there : isThere (getD (t .rows) i noRow) ≡ true
+    there = rw (row-at t long rows-few i h) at (every-at (λ r. isThere r ≡ true) (rowsOf t) (opened-full (contents t) ok) i (rw (rows-length t) h))
+
     -- the bound of the row at a place is the one that stands there
     limit : getD (sheet .bounds) i 0 ≡ bound (contents t) (getD (t .rows) i noRow)
-    limit = rw (shown .bounds, ok) (bounds-row (contents t) i (in-use t i h) ∙ ap (bound (contents t)) (row-at t long rows-few i h))
+    limit = rw (shown .bounds, ok) (bounds-row (contents t) i (in-use t long rows-few i h there) ∙ ap (bound (contents t)) (row-at t long rows-few i h))
 
     next-line : rowLines (contents t) i (drop i (rowsOf t)) ≡ line ++ rowLines (contents t) (suc i) (drop (suc i) (rowsOf t))
     unfolding rowLines

@@ -1,6 +1,7 @@
--- The tests of the rows by their numbers: one number after the other, and where rows or frames have no place.
-use Prim.Native.Nat.{ℕ, zero, suc, _+_, _≤_, _<_}
+-- The tests of the rows by their numbers: one number after the other, an empty one, and where rows or frames have no place.
+use Prim.Native.Nat.{ℕ, zero, suc, _+_, _-_, _≤_, _<_}
 use mathlib.Core.Bool.{Bool, true, false, false≢true, _&&_, and-false}
+use mathlib.Core.List.{List, [], _∷_}
 use mathlib.Core.Path.{_≡_, refl, sym, _∙_}
 use native.Mathlib.Numerals.{add-one}
 use native.Mathlib.Omega.{arith}
@@ -10,10 +11,14 @@ use Rattle.table.specs.declared.Class.{Class}
 use Rattle.table.specs.declared.Class.the-variants.{A, B}
 use Rattle.table.specs.declared.Table.{Table}
 use Rattle.table.specs.Limits.{mostRows, classPlaces}
+use Rattle.table.specs.Wire.{paced, periodOf}
+use Rattle.table.specs.Rows.{isThere, Contents, rowAt}
+use Rattle.table.proofs.Laws as table
+use Rattle.machine.specs.declared.Frame.{Frame}
 use Rattle.machine.specs.declared.Queue.{Queue}
-use Rattle.machine.specs.Record.{upTo}
+use Rattle.machine.specs.Record.{takenIn, upTo, apartFrom, spaced}
 use Rattle.machine.proofs.FromSound.{up-to-true}
-use Rattle.spacing.specs.Spread.{inPlaces}
+use Rattle.spacing.specs.Spread.{inPlaces, spacedTest}
 
 -- ---- a test of the first n numbers
 module _ (n : ℕ) (ok : ℕ → Bool) where
@@ -48,6 +53,19 @@ up-to-both (suc n) x y = go (x n) (y n) (upTo n x) (upTo n y) (up-to-both n x y)
         mid false b true = refl
         mid false b false = refl
     go a b false d p = rw p refl
+
+-- ---- an empty number has the period 0, and no two instants are nearer than that
+apart-0 : (x : ℕ) (xs : List ℕ) → apartFrom 0 x xs ≡ true
+apart-0 x [] = refl
+apart-0 x (y ∷ xs) = rw (le-leb 0 ((x - y) + (y - x)) (omega arith)) (apart-0 x xs)
+
+spaced-0 : (xs : List ℕ) → spaced 0 xs ≡ true
+spaced-0 [] = refl
+spaced-0 (x ∷ xs) = rw (apart-0 x xs) (spaced-0 xs)
+
+pub empty-spaced : (t : Contents) (fs : List Frame) (k : ℕ) → isThere (rowAt t k) ≡ false → spacedTest t fs k ≡ true
+unfolding spacedTest periodOf paced
+empty-spaced t fs k e = rw (table.not-there (rowAt t k) e) (spaced-0 (takenIn k fs))
 
 -- ---- places
 abbrev pub queueOf : Class → Queue → Queue → Queue

@@ -2,7 +2,7 @@
 use Prim.Native.Nat.{ℕ, zero, suc, _+_, _-_, _*_, _/_, _≤_, _<_}
 use mathlib.Core.Path.{_≡_, sym}
 use native.Mathlib.Omega.{arith}
-use native.Mathlib.Nat.{div-zero, div-eq-of-lt, div-lt-iff-lt-mul, le-div-iff-mul-le, lt-div-mul-add, le-mul-of-pos-right, suc-mul, add-div-right}
+use native.Mathlib.Nat.{div-zero, div-eq-of-lt, div-lt-iff-lt-mul, le-div-iff-mul-le, lt-div-mul-add, le-mul-of-pos-right, le-refl, le-trans, suc-mul, add-div-right}
 use Rattle.table.specs.Wire.{ceilDiv}
 
 pub ceil-by-zero : (n : ℕ) → ceilDiv n 0 ≡ 0
@@ -40,3 +40,12 @@ ceil-above n d q pos h = le-div-iff-mul-le {k = d} {x = suc q} {y = n + (d - 1)}
 pub ceil-le : (n d : ℕ) → ceilDiv n d ≤ n
 ceil-le n zero = rw (ceil-by-zero n) (omega arith)
 ceil-le n (suc d) = ceil-most n (suc d) n (omega arith) (le-mul-of-pos-right n (omega arith))
+
+-- a larger number has no smaller quotient
+pub div-grows : (n m d : ℕ) → n ≤ m → n / d ≤ m / d
+div-grows n m zero h = rw (div-zero n, div-zero m) (omega arith)
+div-grows n m (suc d) h = le-div-iff-mul-le {k = suc d} {x = n / suc d} {y = m} (omega arith) .1 (le-trans (le-div-iff-mul-le {k = suc d} {x = n / suc d} {y = n} (omega arith) .0 (le-refl _)) h)
+
+pub ceil-grows : (n m d : ℕ) → n ≤ m → ceilDiv n d ≤ ceilDiv m d
+unfolding ceilDiv
+ceil-grows n m d h = div-grows (n + (d - 1)) (m + (d - 1)) d (omega arith)

@@ -5,9 +5,9 @@ use mathlib.Core.List.{List, [], _∷_}
 use mathlib.Core.Path.{_≡_, refl, sym, _∙_, ap}
 use native.Mathlib.Nat.{le-of-suc-le-suc, div-lt-iff-lt-mul, le-div-iff-mul-le}
 use native.Mathlib.Omega.{arith}
-use lib.Dec.{leb, eqb}
+use lib.Dec.{leb, ltb, eqb}
 use lib.ListN.{length, getD}
-use borrow.Author.Tests.{leb-true, le-leb, lt-leb, lt-ltb, le-ltb, ltb-true, not-true, not-false}
+use borrow.Author.Tests.{leb-true, le-leb, lt-leb, lt-ltb, le-ltb, ltb-true, ne-eqb, not-true, not-false}
 use Rattle.table.specs.declared.Class.{Class}
 use Rattle.table.specs.declared.Class.the-variants.{A, B}
 use Rattle.table.specs.declared.Pace.{Pace}
@@ -15,44 +15,53 @@ use Rattle.table.specs.declared.Pace.the-variants.{Period, Rated}
 use Rattle.table.specs.declared.Row.{Row}
 use Rattle.table.specs.declared.Header.{Header}
 use Rattle.table.specs.declared.Table.{Table}
+use Rattle.table.specs.declared.Refusal.{Refusal}
 use Rattle.table.specs.declared.Refusal.the-variants.{RowCount, Value, Slopes, Shares, Deadline, Frames}
 use Rattle.table.specs.declared.Verdict.{Verdict}
 use Rattle.table.specs.declared.Verdict.the-variants.{Accepted, Refused}
 use Rattle.table.specs.Limits.{mostRows, mostSlope, mostPayload, leastSize, mostSize, leastPeriod, mostPeriod, leastRate, mostRate, mostSamples, mostDeadline, second}
 use Rattle.table.specs.Wire.{wireSize, sizeFor, sizeOf, paced, periodOf}
-use Rattle.table.specs.Rows.{noRow, Contents, contents, rowAt, inUse, InUse, sameClass}
-use Rattle.table.specs.Checks.{Outcome, accepted, refused, outcomeOf, unless, passing, unlessRow, first}
+use Rattle.table.specs.Rows.{noRow, isZero, isThere, Contents, contents, rowAt, inUse, InUse, sameClass}
+use Rattle.table.specs.Checks.{Outcome, accepted, refused, numberOf, placeOf, outcomeOf, unless, passing, unlessRow, first}
 use Rattle.table.specs.Ranges.{countOk, headerOk, within, rateOk, samplesOk, paceOk, deadlineOk, rowOk, rangeChecks, ranged, Every, InRange, Ranges}
 use Rattle.table.proofs.Shape.{row-here}
 -- a table record's places and rows, and quotients rounded up
 pub use Rattle.table.proofs.Shape.{places, rows-length, rows-are, row-in-place, next-row, no-row}
 pub use Rattle.table.proofs.Search.{Passed, none-yet, fails-here, passes-here, all-passed}
 pub use Rattle.table.proofs.Ranged.{count-right, count-low, count-high, header-wrong, row-wrong, all-right}
-pub use Rattle.table.proofs.Division.{ceil-covers, ceil-most, ceil-above, ceil-le}
+-- rows that join and leave
+pub use Rattle.table.proofs.Patched.{not-there, no-row-there, there-used, with-length, with-same, with-other, row-with, row-with-other, with-used, with-still, with-before, row-without, without-gone, without-before, without-count, without-length, trimmed-length}
+pub use Rattle.table.proofs.Division.{ceil-covers, ceil-most, ceil-above, ceil-le, div-grows, ceil-grows}
 
 -- ---- outcomes: a refusal is no acceptance, and each verdict has an outcome of its own
 pub never : {n p : ℕ} {X : Type 0} → refused n p ≡ accepted → X
 never e = let z : _≡_ {A = ℕ} 0 1 = cc in absurd (omega arith)
 
 -- what an outcome says was answered
-abbrev classBy : ℕ → Class
+abbrev pub classBy : ℕ → Class
 classBy zero = A
 classBy (suc n) = B
 
+abbrev pub refusalBy : ℕ → ℕ → Refusal
+refusalBy n p = cond (eqb n 3) RowCount (cond (eqb n 5) (Value p) (cond (eqb n 8) Slopes (cond (eqb n 9) (Shares (classBy p)) (cond (eqb n 10) (Deadline p) (Frames (classBy p))))))
+
+pub refusal-said : (r : Refusal) → refusalBy (numberOf r) (placeOf r) ≡ r
+refusal-said RowCount = refl
+refusal-said (Value p) = refl
+refusal-said Slopes = refl
+refusal-said (Shares A) = refl
+refusal-said (Shares B) = refl
+refusal-said (Deadline k) = refl
+refusal-said (Frames A) = refl
+refusal-said (Frames B) = refl
+
 abbrev verdictBy : Outcome → Verdict
 verdictBy accepted = Accepted
-verdictBy (refused n p) = Refused (cond (eqb n 3) RowCount (cond (eqb n 5) (Value p) (cond (eqb n 8) Slopes (cond (eqb n 9) (Shares (classBy p)) (cond (eqb n 10) (Deadline p) (Frames (classBy p)))))))
+verdictBy (refused n p) = Refused (refusalBy n p)
 
 said : (v : Verdict) → verdictBy (outcomeOf v) ≡ v
 said Accepted = refl
-said (Refused RowCount) = refl
-said (Refused (Value p)) = refl
-said (Refused Slopes) = refl
-said (Refused (Shares A)) = refl
-said (Refused (Shares B)) = refl
-said (Refused (Deadline k)) = refl
-said (Refused (Frames A)) = refl
-said (Refused (Frames B)) = refl
+said (Refused r) = ap Refused (refusal-said r)
 
 -- different verdicts have different numbers or places, so an outcome fixes the verdict
 pub same-verdict : (v w : Verdict) → outcomeOf v ≡ outcomeOf w → v ≡ w
@@ -93,6 +102,10 @@ every-at P [] e k h = absurd (omega arith)
 every-at P (r ∷ rs) e zero h = e .0
 every-at P (r ∷ rs) e (suc k) h = every-at P rs (e .1) k (le-of-suc-le-suc h)
 
+pub every-all : (P : Row → Type 0) (rs : List Row) → ((k : ℕ) → k < length rs → P (getD rs k noRow)) → Every P rs
+every-all P [] h = tt
+every-all P (r ∷ rs) h = (h 0 (omega arith), every-all P rs (λ k g. h (suc k) (omega arith)))
+
 pub every-map : (P Q : Row → Type 0) → ((r : Row) → P r → Q r) → (rs : List Row) → Every P rs → Every Q rs
 every-map P Q f [] e = tt
 every-map P Q f (r ∷ rs) e = (f r (e .0), every-map P Q f rs (e .1))
@@ -106,6 +119,16 @@ all-pass ok (r ∷ rs) h = go (ok r) refl (all-pass ok rs)
     go : (b : Bool) → ok r ≡ b → (length rs ≤ passing ok rs → Every (λ x. ok x ≡ true) rs) → (ok r ≡ true) × Every (λ x. ok x ≡ true) rs
     go true e rest = (e, rest (le-of-suc-le-suc (rw e at h)))
     go false e rest = let none : suc (length rs) ≤ 0 = rw e at h in absurd (omega arith)
+
+-- no more pass than there are
+pub passing-most : (ok : Row → Bool) (rs : List Row) → passing ok rs ≤ length rs
+unfolding passing
+passing-most ok [] = omega arith
+passing-most ok (r ∷ rs) = go (ok r) (passing-most ok rs)
+  where
+    go : (b : Bool) → passing ok rs ≤ length rs → cond b (suc (passing ok rs)) 0 ≤ suc (length rs)
+    go true h = omega arith
+    go false h = omega arith
 
 pass-all : (ok : Row → Bool) (rs : List Row) → Every (λ r. ok r ≡ true) rs → passing ok rs ≡ length rs
 unfolding passing
@@ -121,23 +144,41 @@ unlessRow-accepts ok rs n e = rw (le-leb (length rs) (passing ok rs) (omega (ari
 -- ---- numbers in use
 pub used : (t : Contents) (k : ℕ) → InUse t k → inUse t k ≡ true
 unfolding inUse
-used t k u = lt-ltb _ _ (u .below)
+used t k u = rw (lt-ltb _ _ (u .below), u .there) refl
 
 pub unused : (t : Contents) (k : ℕ) → length (t .rows) ≤ k → inUse t k ≡ false
 unfolding inUse
-unused t k h = le-ltb k (length (t .rows)) h
+unused t k h = rw (le-ltb k (length (t .rows)) h) refl
+
+pub empty : (t : Contents) (k : ℕ) → isThere (rowAt t k) ≡ false → inUse t k ≡ false
+unfolding inUse
+empty t k e = rw e (none (ltb k (length (t .rows))))
+  where
+    none : (b : Bool) → (b && false) ≡ false
+    none true = refl
+    none false = refl
 
 pub is-used : (t : Contents) (k : ℕ) → inUse t k ≡ true → InUse t k
 unfolding inUse
-is-used t k e = record { below = ltb-true k (length (t .rows)) e }
+is-used t k e = let p = and-true (ltb k (length (t .rows))) (isThere (rowAt t k)) e in record { below = ltb-true k (length (t .rows)) (p .0); there = p .1 }
+
+-- a row in range is there
+pub in-range-there : (r : Row) → 1 ≤ r .deadline → isThere r ≡ true
+unfolding isThere
+in-range-there r h = rw (ne-eqb (r .deadline) 0 (λ e. omega arith)) (none (sameClass A (r .class) && eqb (r .payload) 0) (isZero (r .pace)))
+  where
+    none : (x y : Bool) → not (x && (y && false)) ≡ true
+    none true true = refl
+    none true false = refl
+    none false y = refl
 
 -- ---- a table record: the row at a number in use stands at its place
 module _ (t : Table) (long : length (t .rows) ≡ 32) (few : t .count ≤ mostRows) (k : ℕ) (h : k < t .count) where
   pub row-at : rowAt (contents t) k ≡ getD (t .rows) k noRow
   row-at = row-here t long few k h
 
-pub in-use : (t : Table) (k : ℕ) → k < t .count → InUse (contents t) k
-in-use t k h = record { below = rw (rows-length t) h }
+  pub in-use : isThere (getD (t .rows) k noRow) ≡ true → InUse (contents t) k
+  in-use e = record { below = rw (rows-length t) h; there = rw row-at e }
 
 -- ---- classes
 pub same-self : (c : Class) → sameClass c c ≡ true
@@ -207,7 +248,7 @@ period-range r e = paced-range (r .pace) e
 pub row-in-range : (r : Row) → r .payload ≤ mostPayload → paceOk (r .pace) ≡ true → 1 ≤ r .deadline → r .deadline ≤ mostDeadline → InRange r
 row-in-range r a p b c = record { payload = a; pace = p; shortest = period-range r p .0; longest = period-range r p .1; positive = b; deadline = c }
 
-in-range : (r : Row) → rowOk r ≡ true → InRange r
+pub in-range : (r : Row) → rowOk r ≡ true → InRange r
 unfolding rowOk
 in-range r e =
     let p = and-true (leb (r .payload) mostPayload && paceOk (r .pace)) (deadlineOk (r .deadline)) e in
@@ -215,15 +256,15 @@ in-range r e =
     let v = is-within 1 mostDeadline (r .deadline) (p .1) in
     row-in-range r (leb-true _ _ (q .0)) (q .1) (v .0) (v .1)
 
-row-passes : (r : Row) → InRange r → rowOk r ≡ true
+pub row-passes : (r : Row) → InRange r → rowOk r ≡ true
 unfolding rowOk
 row-passes r e = rw (le-leb _ _ (e .payload), e .pace, le-leb _ _ (e .positive), le-leb _ _ (e .deadline)) refl
 
-count-limits : (rs : List Row) → countOk rs ≡ true → (1 ≤ length rs) × (length rs ≤ mostRows)
+pub count-limits : (rs : List Row) → countOk rs ≡ true → (1 ≤ length rs) × (length rs ≤ mostRows)
 unfolding countOk
 count-limits rs e = let p = and-true (leb 1 (length rs)) (leb (length rs) mostRows) e in (leb-true _ _ (p .0), leb-true _ _ (p .1))
 
-header-limits : (h : Header) → headerOk h ≡ true → (h .idlea ≤ mostSlope) × (h .idleb ≤ mostSlope) × (h .payload ≤ mostPayload)
+pub header-limits : (h : Header) → headerOk h ≡ true → (h .idlea ≤ mostSlope) × (h .idleb ≤ mostSlope) × (h .payload ≤ mostPayload)
 unfolding headerOk
 header-limits h e =
     let p = and-true (leb (h .idlea) mostSlope && leb (h .idleb) mostSlope) (leb (h .payload) mostPayload) e in

@@ -3,5 +3,6 @@ mod Division
 mod Shape
 mod Search
 mod Ranged
+mod Patched
 pub mod Laws
 pub mod Answers

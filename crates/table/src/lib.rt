@@ -39,7 +39,7 @@ pub struct Header {
     pub payload: u16,
 }
 
-// A port's table: its header, how many of the places are rows, and the places.
+// A port's table: its header, its row count, which is one above the highest number in use, and the places. (Of any content, until it is checked.)
 pub struct Table {
     pub header: Header,
     pub count: usize,

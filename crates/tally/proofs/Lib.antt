@@ -1,6 +1,4 @@
 -- Laws that belong to no one function. `Laws` is what the crates above may cite.
-mod Notes
-mod Turns
 mod Told
 mod Quiet
 pub mod Laws

@@ -1,6 +1,6 @@
 -- A record in which no row has a frame.
 use Prim.Native.Nat.{ℕ, _≤_, _<_}
-use mathlib.Core.Bool.{true, _&&_}
+use mathlib.Core.Bool.{Bool, true, false, cond, _&&_}
 use mathlib.Core.List.{List, []}
 use mathlib.Core.Path.{_≡_, refl}
 use native.Mathlib.Omega.{arith}
@@ -8,7 +8,7 @@ use lib.Dec.{eqb}
 use borrow.Author.Tests.{eqb-true, ne-eqb, leb-true}
 use Rattle.table.specs.declared.Table.{Table}
 use Rattle.table.specs.Limits.{mostRows}
-use Rattle.table.specs.Rows.{Contents, contents}
+use Rattle.table.specs.Rows.{Contents, rowsOf, contents, inUse}
 use Rattle.table.proofs.Laws as table
 use Rattle.machine.specs.declared.Frame.{Frame}
 use Rattle.machine.specs.declared.Last.{Last}
@@ -19,7 +19,8 @@ use Rattle.machine.specs.State.{Instant, instantsOf}
 use Rattle.machine.specs.Record.{takenIn}
 use Rattle.spacing.specs.Spread.{inRecord}
 use Rattle.spacing.proofs.Laws.{every, all-places}
-use Rattle.tally.specs.Rows.{instantsTest, heldTest, noRowOn, noRowFrames, queuesTest, rowFramesTest}
+use Rattle.notes.specs.Notes.{queuesTest}
+use Rattle.tally.specs.Rows.{instantsTest, heldTest, heldIf, noRowOn, noRowFrames, rowFramesTest}
 
 nothing-on : (w : Wire) (a b : Queue) → noRowFrames w (a .count) (b .count) ≡ true → (a .count ≡ 0) × (b .count ≡ 0) × (noRowOn w ≡ true)
 unfolding noRowFrames
@@ -32,9 +33,13 @@ none-taken : (w : Wire) (a b : Queue) → a .count ≡ 0 → b .count ≡ 0 → 
 none-taken Free a b x y f k h = rw (x, y) refl
 none-taken (Sending g left) a b x y f k h = rw (x, y, ne-eqb (g .source) k (λ z. absurd (omega (arith, leb-true mostRows (g .source) f)))) refl
 
-none-held : (t : Contents) (limits : List ℕ) (ls : List Instant) (fs : List Frame) (k : ℕ) → takenIn k fs ≡ [] → heldTest t limits ls fs k ≡ true
+none-held : (t : Contents) (limits : List ℕ) (ls : List Instant) (fs : List Frame) (k : ℕ) → takenIn k fs ≡ [] → heldIf t limits ls fs k ≡ true
 unfolding heldTest instantsTest
-none-held t limits ls fs k e = rw e refl
+none-held t limits ls fs k e = rw e (either (inUse t k))
+  where
+    either : (b : Bool) → cond b true true ≡ true
+    either true = refl
+    either false = refl
 
 none-waits : (t : Contents) (limits : List ℕ) (now : ℕ) (a b : Queue) → a .count ≡ 0 → b .count ≡ 0 → queuesTest t limits now a b ≡ true
 unfolding queuesTest
@@ -44,5 +49,5 @@ pub quiet : (w : Wire) (a b : Queue) (t : Table) → t .count ≤ mostRows → (
 unfolding rowFramesTest
 quiet w a b t few limits last now e =
     let n = nothing-on w a b e in
-    let held = every (t .count) (heldTest (contents t) limits (instantsOf (t .count) last) (inRecord w a b)) (λ k h. none-held (contents t) limits (instantsOf (t .count) last) (inRecord w a b) k (none-taken w a b (n .0) (n .1) (n .2) k (omega (arith, h, few)))) in
+    let held = every (t .count) (heldIf (contents t) limits (instantsOf (rowsOf t) last) (inRecord w a b)) (λ k h. none-held (contents t) limits (instantsOf (rowsOf t) last) (inRecord w a b) k (none-taken w a b (n .0) (n .1) (n .2) k (omega (arith, h, few)))) in
     rw (all-places t a b few (omega (arith, n .0)) (omega (arith, n .1)), none-waits (contents t) limits now a b (n .0) (n .1)) held

@@ -1,26 +1,25 @@
 -- What is asked of the rows' frames in a record: of each by its row, and of each row's together.
 use Prim.Native.Nat.{ℕ, zero, suc, _*_}
-use mathlib.Core.Bool.{Bool, true, false, _&&_}
+use mathlib.Core.Bool.{Bool, true, false, cond, _&&_}
 use mathlib.Core.List.{List}
 use mathlib.Core.Path.{_≡_}
 use lib.Dec.{leb, ltb, eqb}
-use lib.ListN.{length, getD, take}
-use Rattle.table.specs.declared.Class.the-variants.{A, B}
+use lib.ListN.{length, getD}
 use Rattle.table.specs.declared.Table.{Table}
 use Rattle.table.specs.Limits.{mostRows}
 use Rattle.table.specs.Wire.{periodOf}
-use Rattle.table.specs.Rows.{Contents, contents, rowAt}
+use Rattle.table.specs.Rows.{Contents, rowsOf, contents, rowAt, inUse}
 use Rattle.machine.specs.declared.Frame.{Frame}
 use Rattle.machine.specs.declared.Wire.{Wire}
 use Rattle.machine.specs.declared.Wire.the-variants.{Free, Sending}
 use Rattle.machine.specs.declared.Queue.{Queue}
 use Rattle.machine.specs.declared.Last.{Last}
 use Rattle.machine.specs.State.{Instant, never, instantsOf}
-use Rattle.machine.specs.Record.{allOf, takenIn, upTo, spaced, endsAt}
-use Rattle.frames.specs.Tests.{frameTest}
+use Rattle.machine.specs.Record.{takenIn, upTo, spaced, endsAt}
 use Rattle.spacing.specs.Spread.{inRecord, inPlaces}
-use Rattle.tally.specs.declared.Order.{Order}
-use Rattle.tally.specs.declared.Order.the-variants.{Broken, Rising, Mixed}
+use Rattle.notes.specs.declared.Order.{Order}
+use Rattle.notes.specs.declared.Order.the-variants.{Broken, Rising, Mixed}
+use Rattle.notes.specs.Notes.{queuesTest}
 
 -- So many frames, a period apart, may all be younger than a limit: the periods between them are shorter.
 abbrev pub inLimit : ℕ → (period limit : ℕ) → Bool
@@ -35,6 +34,10 @@ instantsTest period limit l xs = inLimit (length xs) period limit && (spaced per
 unfoldable pub heldTest : Contents → List ℕ → List Instant → List Frame → ℕ → Bool
 heldTest t limits ls fs k = instantsTest (periodOf (rowAt t k)) (getD limits k 0) (getD ls k never) (takenIn k fs)
 
+-- And of a number in use only.
+abbrev pub heldIf : Contents → List ℕ → List Instant → List Frame → ℕ → Bool
+heldIf t limits ls fs k = cond (inUse t k) (heldTest t limits ls fs k) true
+
 -- No row's frame waits in a class queue, by the two counts, or is on the wire: that is free, or what is on it names no row.
 abbrev pub noRowOn : Wire → Bool
 noRowOn Free = true
@@ -43,13 +46,9 @@ noRowOn (Sending f left) = leb mostRows (f .source)
 unfoldable pub noRowFrames : Wire → (a b : ℕ) → Bool
 noRowFrames w a b = (eqb a 0 && eqb b 0) && noRowOn w
 
--- The frames that wait in both class queues, each by its row and its limit of age.
-unfoldable pub queuesTest : Contents → List ℕ → ℕ → Queue → Queue → Bool
-queuesTest t limits now a b = allOf (frameTest A t limits now) (take (a .count) (a .frames)) && allOf (frameTest B t limits now) (take (b .count) (b .frames))
-
 -- All that is asked of them; false where rows or frames have no place.
 unfoldable pub rowFramesTest : Wire → Queue → Queue → Table → List ℕ → List Last → ℕ → Bool
-rowFramesTest w a b t limits last now = inPlaces t a b && (queuesTest (contents t) limits now a b && upTo (t .count) (heldTest (contents t) limits (instantsOf (t .count) last) (inRecord w a b)))
+rowFramesTest w a b t limits last now = inPlaces t a b && (queuesTest (contents t) limits now a b && upTo (t .count) (heldIf (contents t) limits (instantsOf (rowsOf t) last) (inRecord w a b)))
 
 -- What the frames' order says of a test: that it fails, that it holds, or that another decides it.
 abbrev pub TestBy : Bool → Bool → Order → Type 0

@@ -1,32 +1,39 @@
 // The frames of every row in a record.
+ghost use mathlib.Core.Bool.{true, cond};
 ghost use mathlib.Core.Path.{_≡_};
 ghost use Prim.Native.Nat.{_≤_};
 ghost use Rattle.table.specs.Limits.{mostRows};
 ghost use Rattle.table.specs.Wire.{periodOf};
+ghost use Rattle.table.specs.Rows.{isThere};
 ghost use Rattle.machine.specs.State.{instantOf};
 ghost use Rattle.machine.specs.Record.{upTo};
 ghost use Rattle.frames.specs.Tests.{limitsBy};
 ghost use Rattle.spacing.specs.Spread.{spreadTest};
+ghost use Rattle.notes.specs.Notes.{Few};
 ghost use Rattle.tally.specs.Rows.{noRowFrames, rowFramesTest, TestBy};
-ghost use Rattle.tally.specs.Steps.{Few, countTest, countsTest};
-use crate::Order;
-use crate::noting::note_all;
+ghost use Rattle.tally.specs.Steps.{countTest, countsTest};
+use figures::Lane;
+use figures::residences::residence;
 use machine::Last;
 use machine::Queue;
 use machine::Wire;
-use planner::Lane;
-use planner::acceptance::residence;
+use notes::Order;
+use notes::noting::note_all;
 use table::CLASS_PLACES;
 use table::ROWS;
 use table::Row;
 use table::Table;
+use table::rows::is_there;
 use table::wire::period;
 
-// A row has no more frames than its limit of age has periods, and the newest was taken at its last instant.
+// A row has no more frames than its limit of age has periods, and the newest was taken at its last instant. An empty number is not asked.
 fn count_ok(count: u64, newest: u64, l: Last, limit: u64, row: Row) -> bool
     requires { ⌜ count ≤ 255 ⌝ }
-    ensures { λ r. ⌜ r ≡ countTest count newest (instantOf l) limit (periodOf row) ⌝ }
+    ensures { λ r. ⌜ r ≡ cond (isThere row) (countTest count newest (instantOf l) limit (periodOf row)) true ⌝ }
 {
+    if !is_there(row) {
+        return true;
+    }
     if count == 0 {
         return true;
     }
@@ -56,7 +63,7 @@ pub fn no_row_frame(w: Wire, a: usize, b: usize) -> bool
     }
 }
 
-// Count and newest of each row.
+// Count and newest of each row in use.
 fn counts_ok(
     newest: &[u64; ROWS],
     counts: &[u64; ROWS],

@@ -1,3 +1,3 @@
--- The port of a table file, and how many byte-times a call asks for.
+-- The port of a table file, which calls are joins and leaves, and what is judged of the others.
 pub mod Turns
 pub mod Steps

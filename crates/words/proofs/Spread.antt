@@ -1,6 +1,6 @@
 -- Things of a list in their own words: stored one after the other, held, read back, and stored again.
 use Prim.Native.Nat.{ℕ, zero, suc, _+_, _*_, _≤_, _<_}
-use mathlib.Core.List.{List, [], _∷_, _++_, map}
+use mathlib.Core.List.{List, [], _∷_, _++_}
 use mathlib.Core.Path.{_≡_, refl, sym, _∙_, ap}
 use native.Mathlib.Numerals.{add-one}
 use native.Mathlib.Omega.{arith}
@@ -114,8 +114,3 @@ gathered-next f size k n = rw (add-one n) (gathered-suc f size k n)
 pub gathered-none : {X : Type 0} (f : ℕ → X) (size k : ℕ) → [] ≡ gathered f size k 0
 unfolding gathered
 gathered-none f size k = refl
-
-pub gathered-map : {X Y : Type 0} (g : X → Y) (f : ℕ → X) (size k n : ℕ) → gathered (λ j. g (f j)) size k n ≡ map g (gathered f size k n)
-unfolding gathered
-gathered-map g f size k zero = refl
-gathered-map {Y = Y} g f size k (suc n) = ap (λ (ys : List Y). g (f k) ∷ ys) (gathered-map g f size (k + size) n)

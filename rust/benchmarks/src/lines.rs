@@ -14,7 +14,7 @@ use crate::lists::{
     simulate, up_to_the_most,
 };
 use crate::report::{Line, Target};
-use crate::tables::{of_32_rows, of_long_waits, OF_3_ROWS};
+use crate::tables::{of_31_rows, of_32_rows, of_long_waits, FOURTH, OF_3_ROWS};
 
 /// Calls that are made again and again. A frame is offered in the gap of the one
 /// before it, so its advance passes that gap and the frame's bytes up to its own:
@@ -24,6 +24,9 @@ const LONG: &[Call] = &[Call::Advance(65_535)];
 const FULL_FRAME: &[Call] = &[Call::OfferBest(1500), Call::Advance(1542)];
 const SMALL_FRAME: [Call; 2] = [Call::OfferBest(42), Call::Advance(84)];
 const NOTHING: &[Call] = &[Call::Advance(0)];
+
+/// A row that joins the specimen's and leaves.
+const FOURTH_ROW: [Call; 2] = [Call::Join(3, FOURTH), Call::Leave(3)];
 
 /// What one call on a record's bytes is to stay within.
 const OF_A_CALL: &[Target] = &[Target::AtMostNs(1500.0)];
@@ -79,14 +82,25 @@ pub fn long_advances() -> [Line<2>; 2] {
     ]
 }
 
+/// A file of 31 rows, and a row that joins them and leaves.
+fn of_31_and_one() -> (Vec<u8>, [Call; 2]) {
+    let (file, last) = of_31_rows();
+    (file, [Call::Join(31, last), Call::Leave(31)])
+}
+
 /// Calls in which little time passes or none.
-pub fn short_calls() -> [Line<2>; 7] {
+pub fn short_calls() -> [Line<2>; 9] {
     let (three, many) = (&OF_3_ROWS[..], &of_32_rows()[..]);
+    let (of_31, last_row) = of_31_and_one();
     let listed = |name, file, list: &[Call], times| {
         let compared = replayed(file, list, times as u64);
         Line::new(name, compared, &[Target::AtMost(2.0)])
     };
     let line = |name, file, calls: &[Call], times| listed(name, file, &calls.repeat(times), times);
+    let patched = |name, file, calls: &[Call]| Line {
+        targets: vec![],
+        ..line(name, file, calls, 50_000)
+    };
     let early = [Call::Offer(0, 50)];
     [
         Line {
@@ -127,6 +141,8 @@ pub fn short_calls() -> [Line<2>; 7] {
             &SMALL_FRAME,
             50_000,
         ),
+        patched("join of a row and its leave, 3 rows", three, &FOURTH_ROW),
+        patched("join of a row and its leave, 31 rows", &of_31, &last_row),
     ]
 }
 
@@ -162,21 +178,24 @@ pub fn files() -> [Line<2>; 2] {
 }
 
 /// Calls on a record's bytes: beside the simulator's on its own port, those in
-/// place, and the same calls in a list. Each of the two that an 84-byte frame
-/// takes is measured alone as well.
-pub fn calls_on_bytes() -> [Line<3>; 5] {
+/// place, and the same calls in a list. Of two that are made in turn, each is
+/// measured alone as well.
+pub fn calls_on_bytes() -> [Line<3>; 11] {
     const TIMES: usize = 20_000;
     let line = |name, file: &[u8], calls: &[Call], targets| {
         let compared = called(file, &calls.repeat(TIMES), TIMES as u64);
         Line::new(name, compared, targets)
     };
-    let alone = |name, ns| Line {
+    let alone = |name, ns, targets: &[Target]| Line {
         name,
         ns,
         others: [None; 3],
-        targets: OF_A_CALL.to_vec(),
+        targets: targets.to_vec(),
     };
+    let (of_31, last_row) = of_31_and_one();
     let [offer, advance] = called_in_turn(&OF_3_ROWS, SMALL_FRAME);
+    let [join, leave] = called_in_turn(&OF_3_ROWS, FOURTH_ROW);
+    let [last_join, last_leave] = called_in_turn(&of_31, last_row);
     [
         line("advance by 0, 3 rows", &OF_3_ROWS, NOTHING, OF_A_CALL),
         line("advance by 0, 32 rows", &of_32_rows(), NOTHING, &[]),
@@ -186,8 +205,24 @@ pub fn calls_on_bytes() -> [Line<3>; 5] {
             &SMALL_FRAME,
             &[],
         ),
-        alone("its offer alone", offer),
-        alone("its advance alone", advance),
+        alone("its offer alone", offer, OF_A_CALL),
+        alone("its advance alone", advance, OF_A_CALL),
+        line(
+            "join of a row and its leave, 3 rows",
+            &OF_3_ROWS,
+            &FOURTH_ROW,
+            &[],
+        ),
+        alone("the join alone", join, &[]),
+        alone("the leave alone", leave, &[]),
+        line(
+            "join of a row and its leave, 31 rows",
+            &of_31,
+            &last_row,
+            &[],
+        ),
+        alone("the join alone", last_join, &[]),
+        alone("the leave alone", last_leave, &[]),
     ]
 }
 
@@ -203,8 +238,13 @@ pub fn few_rows() -> [Line<1>; 2] {
 pub fn calls_behind_many_frames() -> [Line<2>; 2] {
     const TIMES: usize = 20_000;
     let table = crowds::with_two_neighbours();
-    let (row, way, again) = (3, Way::Blocked, Some(0));
-    let (list, most) = up_to_the_most(&table, Hunt { row, way, again });
+    let hunt = Hunt {
+        row: 3,
+        way: Way::Blocked,
+        again: Some(0),
+        joins: false,
+    };
+    let (list, most) = up_to_the_most(&table, hunt);
     assert_eq!(most, 58, "the frames that the lines' names speak of");
     let line = |name, call| {
         let list = [&list[..], &[call].repeat(TIMES)].concat();

@@ -3,13 +3,15 @@
 use simulator::port::MOST_ADVANCE;
 use simulator::refusal::refuse;
 use simulator::table::MOST_IN_CLASS;
-use simulator::{Advance, Call, Port, Refusal, Table, Wire};
+use simulator::{Advance, Call, Class, Port, Refusal, Table, Wire};
 
 /// More calls than any list has.
 const MOST_CALLS: usize = 1_000_000;
 
 #[derive(Clone)]
 pub struct Driver {
+    /// The table that was opened. Joins and leaves change the port's own.
+    pub opened: Table,
     pub port: Port,
     /// The calls, and the simulator's answers.
     pub calls: Vec<Call>,
@@ -29,7 +31,8 @@ pub fn left_on(wire: &Wire) -> u64 {
 impl Driver {
     pub fn new(table: Table) -> Driver {
         Driver {
-            port: Port::fresh(table),
+            port: Port::fresh(table.clone()),
+            opened: table,
             calls: Vec::new(),
             answers: Vec::new(),
             lefts: Vec::new(),
@@ -46,6 +49,17 @@ impl Driver {
         assert!(self.calls.len() < MOST_CALLS, "a list without an end");
         self.calls.push(call);
         self.answers.push(answer);
+    }
+
+    /// Whether the last call was taken.
+    pub fn taken(&self) -> bool {
+        self.answers.last().is_some_and(Result::is_ok)
+    }
+
+    /// The numbers in use.
+    pub fn numbers(&self) -> Vec<usize> {
+        let in_use = self.port.table.in_use();
+        in_use.map(|(number, _)| number).collect()
     }
 
     /// Offers a row's largest frame.
@@ -78,6 +92,34 @@ impl Driver {
     /// Whether a frame of a row waits.
     pub fn waits(&self) -> bool {
         !self.port.queue_a.is_empty() || !self.port.queue_b.is_empty()
+    }
+
+    /// Whether nothing is in the port and the credits are 0: what a leave waits
+    /// for.
+    pub fn is_settled(&self) -> bool {
+        let port = &self.port;
+        let empty = !self.waits() && port.queue_best.is_empty() && port.wire == Wire::Free;
+        empty && port.credit_a == 0 && port.credit_b == 0
+    }
+
+    /// Advances until that is so, in so many calls at most.
+    pub fn settle(&mut self, most: usize) {
+        for _ in 0..most {
+            if self.is_settled() {
+                return;
+            }
+            let port = &self.port;
+            let climb = |class, credit: i64| {
+                let below = credit.min(0).unsigned_abs();
+                below.div_ceil(port.table.idle(class).max(1))
+            };
+            let n = match self.left() {
+                _ if self.waits() || !port.queue_best.is_empty() => MOST_ADVANCE,
+                0 => climb(Class::A, port.credit_a).max(climb(Class::B, port.credit_b)),
+                left => left,
+            };
+            self.make(Call::Advance(n.clamp(1, MOST_ADVANCE)));
+        }
     }
 
     /// Advances until no frame of a row waits and the wire is free.

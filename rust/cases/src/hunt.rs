@@ -1,8 +1,9 @@
-//! Traffic that makes one row's frame as old as it can become.
+//! Traffic that makes one row's frame as old as it can become, the other rows in
+//! the port from the start or joining while frames wait.
 
 use simulator::port::{LEAST_SIZE, MOST_ADVANCE};
 use simulator::table::accept;
-use simulator::{Call, Class, Frame, Mark, Row, Table, Wire};
+use simulator::{Call, Class, Frame, Mark, Table, Wire};
 
 use crate::driver::Driver;
 
@@ -37,6 +38,9 @@ pub struct Hunt {
     /// be, until the frame is gone; and how many frames of its own row then go
     /// ahead of it.
     pub again: Option<usize>,
+    /// Whether the other rows leave first, but for one of the other class. Each
+    /// joins again when it is first offered to.
+    pub joins: bool,
 }
 
 impl Hunt {
@@ -46,10 +50,15 @@ impl Hunt {
     pub fn all(table: &Table) -> Vec<Hunt> {
         let plan = accept(table).expect("an accepted table");
         let mut hunts = Vec::new();
-        for (row, &Row { class, .. }) in table.rows.iter().enumerate() {
+        for (row, of_table) in table.in_use() {
             let most = plan.most[row] as usize;
-            for &way in Way::of(class) {
-                let hunt = |again| Hunt { row, way, again };
+            for &way in Way::of(of_table.class) {
+                let hunt = |again| Hunt {
+                    row,
+                    way,
+                    again,
+                    joins: false,
+                };
                 hunts.push(hunt(None));
                 if most > 1 {
                     hunts.extend([0, most].map(Some).map(hunt));
@@ -59,71 +68,91 @@ impl Hunt {
         hunts
     }
 
+    /// The same with rows that join while frames wait.
+    pub fn all_with_joins(table: &Table) -> Vec<Hunt> {
+        let hunts = Hunt::all(table).into_iter();
+        hunts
+            .map(|hunt| Hunt {
+                joins: true,
+                ..hunt
+            })
+            .collect()
+    }
+
     /// Offers the frame behind all its neighbours in the same instant, with the
     /// credit of its class as low as it can be.
     pub fn run(self, driver: &mut Driver) {
         quiet(driver);
-        let class = driver.port.table.rows[self.row].class;
-        let mut neighbours = of_class(driver, class);
+        let mut field = Field::new(driver);
+        if self.joins {
+            field.clear(self.row);
+        }
+        self.run_on(&mut field);
+        field.join_all();
+    }
+
+    fn run_on(self, field: &mut Field) {
+        let class = field.table.rows[self.row].class;
+        let mut neighbours = field.of_class(class);
         neighbours.retain(|&other| other != self.row);
         let alone = neighbours.is_empty() && self.again.is_none_or(|ahead| ahead == 0);
         if self.way == Way::InDebt {
             if let Some(largest) = neighbours.pop() {
-                driver.offer(largest);
-                driver.make(Call::Advance(MOST_ADVANCE));
-                driver.until_free();
+                field.offer(largest);
+                field.driver.make(Call::Advance(MOST_ADVANCE));
+                field.driver.until_free();
             }
         }
         if alone {
-            block(driver, class);
+            field.block(class);
         }
         for other in neighbours {
-            driver.offer(other);
+            field.offer(other);
         }
-        driver.offer(self.row);
+        field.offer(self.row);
         for _ in 0..self.again.unwrap_or(0) {
-            let before = driver.port.last[self.row];
-            while driver.port.last[self.row] == before {
-                self.pass(driver, MOST_ADVANCE);
+            let before = field.driver.port.last[self.row];
+            while field.driver.port.last[self.row] == before {
+                self.pass(field, MOST_ADVANCE);
             }
         }
-        let frame = newest(driver, self.row, class);
+        let frame = newest(field.driver, self.row, class);
         if self.way == Way::BehindItsOwn {
-            self.until_next(driver, frame);
-            backlog(driver);
+            self.until_next(field, frame);
+            field.backlog();
         } else if !alone {
-            self.until_turn(driver, frame, class);
-            block(driver, class);
+            self.until_turn(field, frame, class);
+            field.block(class);
         }
-        while self.again.is_some() && in_port(driver, frame) {
-            self.pass(driver, MOST_ADVANCE);
+        while self.again.is_some() && in_port(field.driver, frame) {
+            self.pass(field, MOST_ADVANCE);
         }
-        driver.drain();
+        field.driver.drain();
     }
 
     /// Advances by at most n. Where rows are offered to again, it is no further
     /// than to the next offer to a row of the class, which is made.
-    fn pass(self, driver: &mut Driver, n: u64) {
-        let class = driver.port.table.rows[self.row].class;
+    fn pass(self, field: &mut Field, n: u64) {
+        let class = field.table.rows[self.row].class;
         let mut rows = match self.again {
-            Some(_) => of_class(driver, class),
+            Some(_) => field.of_class(class),
             None => vec![],
         };
         rows.sort_by_key(|&row| row == self.row);
-        let waits = rows.iter().map(|&row| driver.wait(row));
+        let waits = rows.iter().map(|&row| field.driver.wait(row));
         let wait = waits.min().unwrap_or(n).max(1);
-        driver.make(Call::Advance(n.min(wait)));
+        field.driver.make(Call::Advance(n.min(wait)));
         for row in rows {
-            if driver.wait(row) == 0 {
-                driver.offer(row);
+            if field.driver.wait(row) == 0 {
+                field.offer(row);
             }
         }
     }
 
     /// Advances to the last byte-time before a frame may go out.
-    fn until_turn(self, driver: &mut Driver, frame: Frame, class: Class) {
-        while in_port(driver, frame) {
-            let port = &driver.port;
+    fn until_turn(self, field: &mut Field, frame: Frame, class: Class) {
+        while in_port(field.driver, frame) {
+            let port = &field.driver.port;
             let (queue, credit) = match class {
                 Class::A => (&port.queue_a, port.credit_a),
                 Class::B => (&port.queue_b, port.credit_b),
@@ -138,15 +167,15 @@ impl Hunt {
             if wait <= 0 {
                 return;
             }
-            self.pass(driver, (wait as u64).min(MOST_ADVANCE));
+            self.pass(field, (wait as u64).min(MOST_ADVANCE));
         }
     }
 
     /// Advances until a frame is the next of class B, and the one ahead of it
     /// has begun.
-    fn until_next(self, driver: &mut Driver, frame: Frame) {
-        while in_port(driver, frame) {
-            let port = &driver.port;
+    fn until_next(self, field: &mut Field, frame: Frame) {
+        while in_port(field.driver, frame) {
+            let port = &field.driver.port;
             if port.queue_b.front() == Some(&frame) {
                 return;
             }
@@ -154,7 +183,101 @@ impl Hunt {
                 Wire::Sending(_, left) => left,
                 Wire::Free => (-port.credit_b).max(0) as u64 / port.table.idle(Class::B),
             };
-            self.pass(driver, wait.clamp(1, MOST_ADVANCE));
+            self.pass(field, wait.clamp(1, MOST_ADVANCE));
+        }
+    }
+}
+
+/// A driver, and the table with all its rows: those that have left too.
+struct Field<'a> {
+    driver: &'a mut Driver,
+    table: Table,
+}
+
+impl Field<'_> {
+    fn new(driver: &mut Driver) -> Field<'_> {
+        let table = driver.port.table.clone();
+        Field { driver, table }
+    }
+
+    /// The rows of a class, the largest last.
+    fn of_class(&self, class: Class) -> Vec<usize> {
+        let rows = self.table.in_use();
+        let of_class = rows.filter(|(_, row)| row.class == class);
+        let mut of_class: Vec<usize> = of_class.map(|(number, _)| number).collect();
+        of_class.sort_by_key(|&row| self.table.rows[row].size());
+        of_class
+    }
+
+    /// All rows leave but one and the smallest of the other class.
+    fn clear(&mut self, stays: usize) {
+        for class in [Class::A, Class::B] {
+            let mut rows = self.of_class(class);
+            rows.sort_by_key(|&row| row != stays);
+            for row in rows.into_iter().skip(1) {
+                self.driver.make(Call::Leave(row as u64));
+            }
+        }
+    }
+
+    /// A row that has left joins again.
+    fn join(&mut self, row: usize) {
+        if self.driver.port.table.row(row).is_none() {
+            let joining = self.table.rows[row];
+            self.driver.make(Call::Join(row as u64, joining));
+        }
+    }
+
+    fn join_all(&mut self) {
+        for class in [Class::A, Class::B] {
+            for row in self.of_class(class) {
+                self.join(row);
+            }
+        }
+    }
+
+    /// Offers a row's largest frame.
+    fn offer(&mut self, row: usize) {
+        self.join(row);
+        self.driver.offer(row);
+    }
+
+    /// Begins the frame that blocks a class longest: best effort's or, for A,
+    /// that of the largest row of B. For B a backlog of A stands behind it.
+    fn block(&mut self, class: Class) {
+        let longer_b = self.table.largest(Class::B) > self.table.best_size();
+        match self.of_class(Class::B).pop() {
+            Some(row) if class == Class::A && longer_b => self.offer(row),
+            _ => self.driver.offer_best(),
+        }
+        self.driver.make(Call::Advance(1));
+        if class == Class::B {
+            self.backlog();
+        }
+    }
+
+    /// Frames of A that go out one behind the other on the credit that A gains
+    /// while the frame on the wire is sent: as many bytes as the credit lasts
+    /// for, then the largest frame.
+    fn backlog(&mut self) {
+        let Wire::Sending(_, left) = self.driver.port.wire else {
+            return;
+        };
+        let mut bytes = self.table.idle(Class::A) * left / self.table.send(Class::A);
+        let mut rows = self.of_class(Class::A);
+        let largest = rows.pop();
+        for row in rows.into_iter().rev() {
+            let most = self.table.rows[row];
+            let size = most.size().min(bytes);
+            if size >= LEAST_SIZE {
+                self.join(row);
+                let payload = most.payload.min(size - 42);
+                self.driver.make(Call::Offer(row as u64, payload));
+                bytes -= size;
+            }
+        }
+        if let Some(row) = largest {
+            self.offer(row);
         }
     }
 }
@@ -179,66 +302,15 @@ fn in_port(driver: &Driver, frame: Frame) -> bool {
     on_wire || port.queue_a.contains(&frame) || port.queue_b.contains(&frame)
 }
 
-/// The rows of a class, the largest last.
-fn of_class(driver: &Driver, class: Class) -> Vec<usize> {
-    let rows = &driver.port.table.rows;
-    let mut places: Vec<usize> = (0..rows.len())
-        .filter(|&row| rows[row].class == class)
-        .collect();
-    places.sort_by_key(|&row| rows[row].size());
-    places
-}
-
 /// Advances until nothing is in the port, the credits are 0 and every row may
 /// be offered to.
 fn quiet(driver: &mut Driver) {
     loop {
-        let rows = driver.port.table.rows.len();
-        let wait = (0..rows).map(|row| driver.wait(row)).max().unwrap_or(0);
-        let port = &driver.port;
-        let empty = !driver.waits() && port.queue_best.is_empty() && port.wire == Wire::Free;
-        if empty && wait == 0 && port.credit_a == 0 && port.credit_b == 0 {
+        let waits = driver.numbers().into_iter().map(|row| driver.wait(row));
+        let wait = waits.max().unwrap_or(0);
+        if driver.is_settled() && wait == 0 {
             return;
         }
         driver.make(Call::Advance(wait.clamp(1000, MOST_ADVANCE)));
-    }
-}
-
-/// Begins the frame that blocks a class longest: best effort's or, for A, that
-/// of the largest row of B. For B a backlog of A stands behind it.
-fn block(driver: &mut Driver, class: Class) {
-    let table = &driver.port.table;
-    let longer_b = table.largest(Class::B) > table.best_size();
-    match of_class(driver, Class::B).pop() {
-        Some(row) if class == Class::A && longer_b => driver.offer(row),
-        _ => driver.offer_best(),
-    }
-    driver.make(Call::Advance(1));
-    if class == Class::B {
-        backlog(driver);
-    }
-}
-
-/// Frames of A that go out one behind the other on the credit that A gains
-/// while the frame on the wire is sent: as many bytes as the credit lasts for,
-/// then the largest frame.
-fn backlog(driver: &mut Driver) {
-    let table = &driver.port.table;
-    let Wire::Sending(_, left) = driver.port.wire else {
-        return;
-    };
-    let mut bytes = table.idle(Class::A) * left / table.send(Class::A);
-    let mut rows = of_class(driver, Class::A);
-    let largest = rows.pop();
-    for row in rows.into_iter().rev() {
-        let most = driver.port.table.rows[row];
-        let size = most.size().min(bytes);
-        if size >= LEAST_SIZE {
-            driver.make(Call::Offer(row as u64, most.payload.min(size - 42)));
-            bytes -= size;
-        }
-    }
-    if let Some(row) = largest {
-        driver.offer(row);
     }
 }

@@ -1,13 +1,14 @@
 //! What the tests and benchmarks are made of: tables, files, lines, lists of
 //! calls and port records from a deterministic generator, hunts for a row's
-//! oldest frame, and the watch that holds a list with its answers to document
-//! 01's demand 3.
+//! oldest frame, kinds of calls about rows that come and go, and the watch that
+//! holds a list with its answers to document 01's demand 3.
 
 pub mod crowds;
 pub mod driver;
 pub mod files;
 pub mod hunt;
 pub mod lines;
+pub mod patches;
 pub mod ports;
 pub mod random;
 pub mod rates;

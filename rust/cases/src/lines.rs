@@ -1,7 +1,7 @@
 //! Lines for `portrun`.
 
 /// Lines of no call's form: `portrun` stops there.
-pub const OF_NO_FORM: [&str; 30] = [
+pub const OF_NO_FORM: [&str; 33] = [
     "",
     " ",
     "a",
@@ -32,6 +32,9 @@ pub const OF_NO_FORM: [&str; 30] = [
     "b ",
     "b 1 2",
     "c 5",
+    "l 0",
+    "leave 0",
+    "join 3 58",
 ];
 
 /// Calls with numbers that begin with a 0, or of more than 64 bits, or with

@@ -4,7 +4,7 @@ use std::collections::VecDeque;
 
 use simulator::port::{LAST_CLOCK, LEAST_SIZE, MOST_BEST};
 use simulator::table::{accept, Accepted, GAP, MOST_ROWS};
-use simulator::{Call, Class, Frame, Mark, Port, Table, Wire};
+use simulator::{Call, Class, Frame, Mark, Port, Row, Table, Wire};
 
 use crate::driver::Driver;
 use crate::random::Random;
@@ -27,13 +27,24 @@ pub fn reached(random: &mut Random) -> Port {
     driver.port
 }
 
+/// A sound record: one that a list of calls has led to, or one that is made up,
+/// of a table with empty numbers or without.
+pub fn sound(random: &mut Random) -> Port {
+    let table = match random.below(4) {
+        0 => tables::lively(random),
+        1 => tables::patched(random),
+        _ => return reached(random),
+    };
+    made_up(random, table)
+}
+
 /// A sound record of a table, made up and not led to: every row has as many
 /// frames as it may have, the newest taken now, in the order of their instants.
 pub fn full(table: Table) -> Port {
     let plan = accept(&table).expect("an accepted table");
     let mut port = Port::fresh(table);
     port.clock = 1 << 32;
-    for (place, row) in port.table.rows.iter().enumerate() {
+    for (place, row) in port.table.in_use() {
         let queue = match row.class {
             Class::A => &mut port.queue_a,
             Class::B => &mut port.queue_b,
@@ -61,7 +72,8 @@ pub fn full_reversed(table: Table) -> Port {
 }
 
 /// A sound record of a table, made up and not led to: rows have as many frames
-/// as they may, or fewer, in any order and a period apart or more.
+/// as they may, or fewer, in any order and a period apart or more, and the
+/// places that belong to no part hold anything.
 pub fn made_up(random: &mut Random, table: Table) -> Port {
     let plan = accept(&table).expect("an accepted table");
     let mut port = Port::fresh(table);
@@ -71,8 +83,11 @@ pub fn made_up(random: &mut Random, table: Table) -> Port {
         *credit = lowest + random.between(0, (highest - lowest) as u64) as i64;
     }
     let fill = random.pick(&[Fill::Full, Fill::Full, Fill::Some]);
-    for row in 0..port.table.rows.len() {
-        put_frames(random, &mut port, &plan, row, fill);
+    for number in 0..MOST_ROWS {
+        match port.table.row(number).copied() {
+            Some(row) => put_frames(random, &mut port, &plan, (number, row), fill),
+            None => put_junk(random, &mut port, number),
+        }
     }
     for _ in 0..random.below(MOST_BEST + 1) {
         let size = random.between(LEAST_SIZE, port.table.best_size());
@@ -111,9 +126,25 @@ enum Fill {
     Some,
 }
 
+/// Puts anything into the places of a number that is not in use, but for the
+/// bound of an empty number.
+fn put_junk(random: &mut Random, port: &mut Port, number: usize) {
+    let instants = [port.clock, port.clock + 1, random.word()];
+    port.last[number] = (!random.one_in(4)).then(|| random.pick(&instants));
+    if number >= port.table.rows.len() {
+        let any = random.word();
+        port.bounds[number] = random.pick(&[port.bounds[0], any]);
+    }
+}
+
 /// Puts frames of a row into its queue, the newest at the row's last instant.
-fn put_frames(random: &mut Random, port: &mut Port, plan: &Accepted, place: usize, fill: Fill) {
-    let row = port.table.rows[place];
+fn put_frames(
+    random: &mut Random,
+    port: &mut Port,
+    plan: &Accepted,
+    (place, row): (usize, Row),
+    fill: Fill,
+) {
     let (most, residence) = (plan.most[place], plan.residences[place]);
     let count = match fill {
         Fill::Full => most,
@@ -162,7 +193,7 @@ pub fn moved(mut port: Port, clock: u64) -> Port {
         frame.instant += by;
     }
     for last in port.last.iter_mut().flatten() {
-        *last += by;
+        *last = last.wrapping_add(by);
     }
     port
 }
@@ -173,8 +204,8 @@ pub fn change(random: &mut Random, port: &mut Port) {
     let Ok(plan) = accept(&port.table) else {
         return;
     };
-    match random.below(16) {
-        0 => tables::change(random, &mut port.table),
+    match random.below(18) {
+        0 | 12 => change_table(random, port),
         1 => {
             let next = port.clock.wrapping_add(1);
             port.clock = random.pick(&[next, LAST_CLOCK, LAST_CLOCK + 1, u64::MAX]);
@@ -196,8 +227,34 @@ pub fn change(random: &mut Random, port: &mut Port) {
             random.shuffle(queue.make_contiguous());
         }
         9..=11 => add_frame(random, port),
+        13 => change_bound(random, port, &plan),
         _ => change_frame(random, port, &plan),
     }
+}
+
+/// Moves a value of the table to an edge or empties a number, and at times works
+/// the bounds out afresh.
+fn change_table(random: &mut Random, port: &mut Port) {
+    match random.below(2) {
+        0 => tables::change(random, &mut port.table),
+        _ => {
+            let number = random.below(port.table.rows.len());
+            port.table = port.table.without(number);
+        }
+    }
+    if random.one_in(2) {
+        port.bounds = Port::fresh(port.table.clone()).bounds;
+    }
+}
+
+/// The bound of a number below the row count, or of the next, where it is no
+/// part.
+fn change_bound(random: &mut Random, port: &mut Port, plan: &Accepted) {
+    let number = random.below((port.table.rows.len() + 1).min(MOST_ROWS));
+    let bound = port.bounds[number];
+    let about = [bound.wrapping_add(1), bound.wrapping_sub(1)];
+    let edges = [about[0], about[1], 0, plan.residences[number], u64::MAX];
+    port.bounds[number] = random.pick(&edges);
 }
 
 fn change_credit(random: &mut Random, port: &mut Port, plan: &Accepted) {
@@ -277,7 +334,7 @@ fn add_frame(random: &mut Random, port: &mut Port) {
     let Mark::Row(place) = frame.mark else {
         return;
     };
-    let Some(row) = port.table.rows.get(place).copied() else {
+    let Some(row) = port.table.row(place).copied() else {
         return;
     };
     let apart = row.period().wrapping_add(random.pick(&[0, 1, u64::MAX]));
@@ -305,7 +362,7 @@ fn change_frame(random: &mut Random, port: &mut Port, plan: &Accepted) {
         0 => frame.mark = any_mark(random, port),
         1 => {
             let most = match frame.mark {
-                Mark::Row(row) => port.table.rows.get(row).map_or(0, |row| row.size()),
+                Mark::Row(row) => port.table.row(row).map_or(0, |row| row.size()),
                 Mark::BestEffort => port.table.best_size(),
             };
             frame.size = random.pick(&[83, 84, most, most + 1, frame.size + 1]);
@@ -339,7 +396,7 @@ fn any_instant(random: &mut Random, port: &Port, plan: &Accepted, frame: Frame) 
         Mark::BestEffort => port.clock,
     };
     let apart = match frame.mark {
-        Mark::Row(row) => port.table.rows.get(row).map_or(0, |row| row.period()),
+        Mark::Row(row) => port.table.row(row).map_or(0, |row| row.period()),
         Mark::BestEffort => 0,
     };
     let last = match frame.mark {

@@ -1,6 +1,6 @@
 //! Document 01's specimen.
 
-use simulator::{Class, Table};
+use simulator::{Class, Pace, Row, Table};
 
 use crate::tables::row;
 
@@ -29,3 +29,12 @@ pub fn table() -> Table {
         ],
     }
 }
+
+/// A row that fits beside the specimen's, with 400 bytes on the wire. The bounds
+/// are then 5630, 5030, 4944 and 4730, without it 3730, 3130 and 4844.
+pub const FOURTH: Row = Row {
+    class: Class::A,
+    payload: 358,
+    pace: Pace::Period(15_625),
+    deadline: 15_625,
+};

@@ -60,6 +60,47 @@ pub fn lively(random: &mut Random) -> Table {
     within(random, longest)
 }
 
+/// An accepted table as joins and leaves make them.
+pub fn patched(random: &mut Random) -> Table {
+    let table = lively(random);
+    scattered(random, table)
+}
+
+/// Rows of an accepted table, some of them and at any numbers, with empty ones
+/// between them.
+pub fn scattered(random: &mut Random, mut table: Table) -> Table {
+    let mut rows = std::mem::take(&mut table.rows);
+    random.shuffle(&mut rows);
+    let mut numbers: Vec<usize> = (0..MOST_ROWS).collect();
+    random.shuffle(&mut numbers);
+    for (row, number) in rows.into_iter().zip(numbers) {
+        let is_first = table.largest(row.class) == 0;
+        if is_first || random.one_in(2) {
+            table = table.with(number, row);
+        }
+    }
+    table
+}
+
+/// A row to join an accepted table at a number that is not in use: most of the
+/// time one that its slope has room for, else one at an edge of the rules.
+pub fn joining(random: &mut Random, table: &Table, number: usize) -> Row {
+    let in_use: Vec<&Row> = table.in_use().map(|(_, row)| row).collect();
+    let beside = random.pick(&in_use);
+    let payload = payload(random, beside.payload);
+    let mut joining = row(beside.class, payload, LONGEST, LATEST);
+    let figures = table.figures(beside.class);
+    let rest = figures.idle.saturating_sub(figures.shares).max(1);
+    let least = (D * joining.size()).div_ceil(rest);
+    let period = random.pick(&[least, 2 * least, 10 * least, 200_000]);
+    joining.pace = paced(random, period.min(LONGEST));
+    let mut enlarged = table.with(number, joining);
+    if random.one_in(2) {
+        change_row(random, &mut enlarged, number);
+    }
+    enlarged.rows[number]
+}
+
 /// An accepted table of 32 rows.
 pub fn full(random: &mut Random) -> Table {
     first_accepted(|| proposed(random), |table| table.rows.len() == MOST_ROWS)
@@ -346,37 +387,48 @@ pub fn change(random: &mut Random, table: &mut Table) {
     let place = random.below(table.rows.len());
     let class = table.rows[place].class;
     let off = random.between(0, 1);
-    match random.below(14) {
-        0 => late(table, place, off),
-        1 => {
+    match random.below(16) {
+        0 => {
             let shares = shares(table, class);
             *idle(table, class) = shares.saturating_sub(off);
         }
-        2 => *idle(table, class) = 0,
-        3 => table.rows.retain(|row| row.class != class),
-        4 => {
+        1 => *idle(table, class) = 0,
+        2 => table.rows.retain(|row| row.class != class),
+        3 => {
             let other = MOST_IDLE_TOGETHER.saturating_sub(table.idle(class));
             *idle(table, opposite(class)) = other + off;
         }
-        5 => table.rows[place].class = opposite(class),
+        4 => *idle(table, class) = random.pick(&[1, 750_000, 750_001, u64::from(u32::MAX)]),
+        5 => table.best_payload = random.pick(&[0, 1500, 1501, 65_535]),
         6 => {
+            let row = table.rows[place];
+            table.rows.resize(random.pick(&[0, 1, 32, 33, 255]), row);
+        }
+        7 => table.rows.push(Row::EMPTY),
+        _ => change_row(random, table, place),
+    }
+}
+
+/// Moves one value of a row to an edge.
+fn change_row(random: &mut Random, table: &mut Table, place: usize) {
+    let off = random.between(0, 1);
+    let class = table.rows[place].class;
+    match random.below(8) {
+        0 => late(table, place, off),
+        1 => table.rows[place].class = opposite(class),
+        2 => {
             let edges = [83, 84, 15_625, 31_250, LONGEST, LONGEST + 1];
             table.rows[place].pace = Pace::Period(random.pick(&edges));
         }
-        7 => table.rows[place].payload = random.pick(&[0, 42, 43, 1500, 1501, 65_535]),
-        8 => {
+        3 => table.rows[place].payload = random.pick(&[0, 42, 43, 1500, 1501, 65_535]),
+        4 => {
             let period = table.rows[place].period();
             let edges = [0, 1, period, period + 1, LATEST, LATEST + 1];
             table.rows[place].deadline = random.pick(&edges);
         }
-        9 => *idle(table, class) = random.pick(&[1, 750_000, 750_001, u64::from(u32::MAX)]),
-        10 => table.best_payload = random.pick(&[0, 1500, 1501, 65_535]),
-        11 => table.rows[place].pace = rated_edge(random),
-        12 => crowd(random, table, place, off),
-        _ => {
-            let row = table.rows[place];
-            table.rows.resize(random.pick(&[0, 1, 32, 33, 255]), row);
-        }
+        5 => table.rows[place].pace = rated_edge(random),
+        6 => crowd(random, table, place, off),
+        _ => table.rows[place] = Row::EMPTY,
     }
 }
 
@@ -391,21 +443,20 @@ fn rated_edge(random: &mut Random) -> Pace {
 
 /// Makes a row's deadline its bound, or less by `off`.
 pub fn late(table: &mut Table, place: usize, off: u64) {
-    if let Some(bound) = bounds(table).ok().map(|bounds| bounds[place]) {
-        table.rows[place].deadline = bound - off;
+    if let (Ok(plan), Some(_)) = (accept(table), table.row(place)) {
+        table.rows[place].deadline = plan.bounds()[place] - off;
     }
 }
 
 /// Makes a row's period so short that the counts of its class sum to 64, or
 /// more by `off`: the shortest such period, or the longest.
 pub fn crowd(random: &mut Random, table: &mut Table, place: usize, off: u64) {
-    let Ok(plan) = accept(table) else {
+    let (Ok(plan), Some(&Row { class, .. })) = (accept(table), table.row(place)) else {
         return;
     };
-    let class = table.rows[place].class;
-    let rows = table.rows.iter().zip(plan.most).enumerate();
-    let others = rows.filter(|(other, (row, _))| *other != place && row.class == class);
-    let others: u64 = others.map(|(_, (_, most))| most).sum();
+    let others = table.in_use();
+    let others = others.filter(|(other, row)| *other != place && row.class == class);
+    let others: u64 = others.map(|(other, _)| plan.most[other]).sum();
     let (residence, count) = (plan.residences[place], MOST_IN_CLASS + off - others);
     let period = match random.below(2) {
         0 if count > 1 => (residence - 1) / (count - 1),

@@ -4,17 +4,18 @@ use cases::crowds;
 use cases::driver::Driver;
 use cases::hunt::Hunt;
 use cases::random::Random;
-use cases::specimen::table;
-use cases::traffic::{dense_calls, random_calls};
+use cases::specimen::{table, FOURTH};
+use cases::tables;
+use cases::traffic::{dense_calls, patched_calls, random_calls};
 use cases::watch::{Seen, Watch};
 use simulator::refusal::refuse;
-use simulator::{bounds, Advance, Call, Frame, Mark, Refusal, TAKEN};
+use simulator::{bounds, Advance, Call, Frame, Mark, Pace, Refusal, Row, TAKEN};
 
 fn watched(driver: &Driver) -> Seen {
-    let bounds = bounds(&driver.port.table).unwrap();
+    let bounds = bounds(&driver.opened).unwrap();
     let calls = driver.calls.iter().copied();
     let steps = calls.zip(driver.answers.iter().copied());
-    Watch::new(&driver.port.table, &bounds).see_all(steps)
+    Watch::new(&driver.opened, &bounds).see_all(steps)
 }
 
 #[test]
@@ -25,6 +26,22 @@ fn the_simulators_lists_pass() {
     dense_calls(&mut random, &mut driver, 2000);
     driver.drain();
     assert_eq!(watched(&driver), Ok(()));
+}
+
+#[test]
+fn rows_that_come_and_go_pass() {
+    let mut random = Random::new(18);
+    for _ in 0..30 {
+        let table = tables::within(&mut random, 200_000);
+        let mut driver = Driver::new(table.clone());
+        for hunt in Hunt::all_with_joins(&table) {
+            hunt.run(&mut driver);
+        }
+        patched_calls(&mut random, &mut driver, 500);
+        random_calls(&mut random, &mut driver, 500);
+        driver.drain();
+        assert_eq!(watched(&driver), Ok(()));
+    }
 }
 
 #[test]
@@ -59,8 +76,13 @@ const END_OF_ROW_0: usize = 6;
 
 /// The run with another answer at a place is wrong there.
 fn wrong(place: usize, answer: Result<Advance, Refusal>) {
+    wrong_in(&RUN, place, answer);
+}
+
+/// A list on the specimen's port with another answer at a place is wrong there.
+fn wrong_in(calls: &[Call], place: usize, answer: Result<Advance, Refusal>) {
     let mut driver = Driver::new(table());
-    RUN.into_iter().for_each(|call| driver.make(call));
+    calls.iter().for_each(|&call| driver.make(call));
     assert_eq!(watched(&driver), Ok(()));
     assert_ne!(driver.answers[place], answer);
     driver.answers[place] = answer;
@@ -231,4 +253,172 @@ fn a_rows_frames_are_reported_in_turn() {
     driver.answers = said;
     driver.answers[ends[1]] = driver.answers[ends[0]];
     assert!(watched(&driver).is_err());
+}
+
+/// A row's frame is taken at 0, another row joins at 1000 or none, and a report
+/// is answered so long after the offer, or none.
+fn with_a_join(row: usize, joins: bool, age: u64, is_reported: bool) -> Seen {
+    let table = table();
+    let (payload, size) = (table.rows[row].payload, table.rows[row].size());
+    let join = joins.then_some((Call::Join(3, FOURTH), Ok(TAKEN)));
+    let last = match is_reported {
+        true => ended(age - 1000, Mark::Row(row), size, 0),
+        false => nothing(age - 1000),
+    };
+    let first = [
+        (Call::Offer(row as u64, payload), Ok(TAKEN)),
+        (Call::Advance(1000), nothing(1000)),
+    ];
+    let steps = first.into_iter().chain(join);
+    let steps = steps.chain([(Call::Advance(age - 1000), last)]);
+    Watch::new(&table, &bounds(&table).unwrap()).see_all(steps)
+}
+
+#[test]
+fn a_frames_limit_is_the_largest_bound_of_its_row() {
+    for (row, before, after) in [(0, 3730, 5630), (1, 3130, 5030), (2, 4844, 4944)] {
+        for (joins, limit) in [(false, before), (true, after)] {
+            assert_eq!(with_a_join(row, joins, limit, true), Ok(()));
+            assert!(with_a_join(row, joins, limit + 1, true).is_err());
+            assert_eq!(with_a_join(row, joins, limit - 1, false), Ok(()));
+            assert!(with_a_join(row, joins, limit, false).is_err());
+        }
+    }
+}
+
+/// A bound that a row had before a frame was taken is nothing to the frame.
+#[test]
+fn a_limit_falls_with_a_leave() {
+    let reported = |age| {
+        let table = table();
+        let steps = [
+            (Call::Join(3, FOURTH), Ok(TAKEN)),
+            (Call::Leave(3), Ok(TAKEN)),
+            (Call::Offer(1, 258), Ok(TAKEN)),
+            (Call::Advance(age), ended(age, Mark::Row(1), 300, 0)),
+        ];
+        Watch::new(&table, &bounds(&table).unwrap()).see_all(steps.into_iter())
+    };
+    assert_eq!(reported(3130), Ok(()));
+    assert!(reported(3131).is_err());
+}
+
+#[test]
+fn joins_are_taken_or_refused_by_the_rules() {
+    let late = Row {
+        deadline: 1,
+        ..FOURTH
+    };
+    let short = Row {
+        pace: Pace::Period(84),
+        ..FOURTH
+    };
+    let joins = [
+        (Call::Join(2, FOURTH), refuse(22, 0)),
+        (Call::Join(32, FOURTH), refuse(22, 0)),
+        (Call::Join(u64::MAX, FOURTH), refuse(22, 0)),
+        (Call::Join(9, Row::EMPTY), refuse(5, 9)),
+        (Call::Join(9, short), refuse(9, 0)),
+        (Call::Join(9, late), refuse(10, 9)),
+        (Call::Join(9, FOURTH), Ok(TAKEN)),
+        (Call::Join(9, FOURTH), refuse(22, 0)),
+        (Call::Join(5, FOURTH), refuse(10, 1)),
+    ];
+    let calls = joins.map(|(call, _)| call);
+    let right = joins.map(|(_, answer)| answer);
+    let numbers = [5, 8, 9, 10, 18, 20, 22];
+    for (place, &meant) in right.iter().enumerate() {
+        let others = numbers
+            .into_iter()
+            .flat_map(|number| [0, 1, 9].map(|at| refuse(number, at)));
+        for answer in others.chain([Ok(TAKEN)]).filter(|answer| *answer != meant) {
+            wrong_in(&calls, place, answer);
+        }
+    }
+    // A first row of B has no slope.
+    let mut without_b = table();
+    without_b.rows.truncate(2);
+    without_b.idle_b = 0;
+    let seen = |answer| {
+        let steps = [(Call::Join(2, table().rows[2]), answer)];
+        let bounds = bounds(&without_b).unwrap();
+        Watch::new(&without_b, &bounds).see_all(steps.into_iter())
+    };
+    assert_eq!(seen(refuse(8, 0)), Ok(()));
+    assert!(seen(Ok(TAKEN)).is_err());
+}
+
+/// A row joins, sends a frame of 400 bytes, leaves when its credit is back, 1200
+/// byte-times later, and joins again.
+const COMES_AND_GOES: [Call; 17] = [
+    Call::Join(3, FOURTH),
+    Call::Offer(3, 358),
+    Call::Leave(3),
+    Call::Advance(100),
+    Call::Leave(3),
+    Call::Advance(65_535),
+    Call::Leave(3),
+    Call::Advance(12 + 1199),
+    Call::Leave(3),
+    Call::Advance(1),
+    Call::Leave(3),
+    Call::Offer(3, 358),
+    Call::Leave(3),
+    Call::Join(3, FOURTH),
+    Call::Offer(3, 358),
+    Call::Leave(2),
+    Call::Advance(65_535),
+];
+
+#[test]
+fn leaves_are_taken_or_refused_by_the_rules() {
+    let wrong = |place, answer| wrong_in(&COMES_AND_GOES, place, answer);
+    // With a frame that waits, on the wire or in its gap.
+    for place in [2, 4, 6] {
+        for number in [8, 11, 18] {
+            wrong(place, refuse(number, 0));
+        }
+        wrong(place, Ok(TAKEN));
+    }
+    // The credit is back for sure.
+    for number in [8, 11, 18, 21] {
+        wrong(10, refuse(number, 0));
+    }
+    // An empty number, also while a credit may be below 0.
+    wrong(12, Ok(TAKEN));
+    wrong(12, refuse(21, 0));
+    let owing = [
+        Call::Offer(0, 58),
+        Call::Advance(65_535),
+        Call::Advance(12),
+        Call::Leave(3),
+    ];
+    wrong_in(&owing, 3, refuse(21, 0));
+    // Frames wait, so that 8 is not asked.
+    wrong(15, refuse(8, 0));
+    wrong(15, Ok(TAKEN));
+    // B's last row.
+    wrong_in(&[Call::Leave(2)], 0, Ok(TAKEN));
+    wrong_in(&[Call::Leave(2)], 0, refuse(21, 0));
+    // Best effort waits, or is in its gap.
+    let with_best = [
+        Call::OfferBest(0),
+        Call::Leave(0),
+        Call::Advance(72),
+        Call::Leave(0),
+    ];
+    wrong_in(&with_best, 1, Ok(TAKEN));
+    wrong_in(&with_best, 3, Ok(TAKEN));
+}
+
+#[test]
+fn offers_follow_the_joins_and_leaves() {
+    let wrong = |place, answer| wrong_in(&COMES_AND_GOES, place, answer);
+    wrong(1, refuse(11, 0));
+    // An empty number, and one used again: it has no last instant.
+    wrong(11, Ok(TAKEN));
+    wrong(14, refuse(11, 0));
+    wrong(14, refuse(13, 0));
+    // A frame whose row has left was reported: it is not again.
+    wrong(16, ended(388, Mark::Row(3), 400, 0));
 }

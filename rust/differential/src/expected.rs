@@ -2,12 +2,12 @@
 //! the simulator.
 
 use ithumeco::{
-    put_words, words, Answer, Record, ANSWER_SIZE, BOUNDS_SIZE, CALL_SIZE, RECORD_SIZE,
+    put_words, words, Answer, Record, RowWords, ANSWER_SIZE, BOUNDS_SIZE, CALL_SIZE, RECORD_SIZE,
 };
 use simulator::refusal::refuse;
 use simulator::{opened, Call, Port, Refusal};
 
-use crate::readable::port_of;
+use crate::readable::{joining_of, port_of};
 
 pub type Outcome = Result<(), Refusal>;
 
@@ -68,7 +68,7 @@ pub fn call(saved: &mut [u8], call: &[u8], out: &mut [u8]) -> Outcome {
 
 /// One call on bytes that may be a record.
 fn answer_on(saved: &mut [u8], call: Call) -> Answer {
-    let broken = Answer::refused(18);
+    let broken = Answer::refused(18, 0);
     let Some(saved) = saved.first_chunk_mut::<RECORD_SIZE>() else {
         return broken;
     };
@@ -84,14 +84,26 @@ fn answer_on(saved: &mut [u8], call: Call) -> Answer {
     said
 }
 
-/// The call that bytes name.
+/// The call that bytes name: the words that it does not use are 0.
 pub fn call_of(bytes: &[u8]) -> Option<Call> {
     let words: Vec<u64> = words(bytes).collect();
     match words[..] {
         _ if bytes.len() != CALL_SIZE => None,
-        [0, row, payload] => Some(Call::Offer(row, payload)),
-        [1, payload, 0] => Some(Call::OfferBest(payload)),
-        [2, n, 0] => Some(Call::Advance(n)),
+        [0, row, payload, 0, 0, 0, 0, 0] => Some(Call::Offer(row, payload)),
+        [1, payload, 0, 0, 0, 0, 0, 0] => Some(Call::OfferBest(payload)),
+        [2, n, 0, 0, 0, 0, 0, 0] => Some(Call::Advance(n)),
+        [3, number, class, payload, deadline, rated, pace, samples] => {
+            let row = joining_of(&RowWords {
+                class,
+                payload,
+                deadline,
+                rated,
+                pace,
+                samples,
+            });
+            Some(Call::Join(number, row?))
+        }
+        [4, number, 0, 0, 0, 0, 0, 0] => Some(Call::Leave(number)),
         _ => None,
     }
 }

@@ -1,9 +1,10 @@
-//! The port that a record's words name.
+//! The port that a record's words name, and the row that a join's do.
 
 use std::collections::VecDeque;
 
 use ithumeco::{
-    words, FrameWords, QueueWords, Record, RowWords, WireWords, RECORD_SIZE, VERSION, WORD_SIZE,
+    words, FrameWords, LastWords, QueueWords, Record, RowWords, WireWords, RECORD_SIZE, VERSION,
+    WORD_SIZE,
 };
 use simulator::{Class, Frame, Mark, Pace, Port, Row, Table, Wire};
 
@@ -26,22 +27,46 @@ pub fn left_of(record: &[u8]) -> u64 {
     }
 }
 
-/// Whether every word in use fits its field. A clock, a credit and an instant
-/// take any word.
-fn fits(record: &Record) -> bool {
-    let Some(rows) = in_use(&record.rows, record.count) else {
-        return false;
+/// The port that a record names, none if a word in use does not fit its field. A
+/// clock, a credit, an instant and a bound take any word.
+pub fn port_of(record: &Record) -> Option<Port> {
+    if record.version != VERSION {
+        return None;
+    }
+    let rows = in_use(&record.rows, record.count)?.iter();
+    let table = Table {
+        idle_a: fitting(record.idle_a, U32)?,
+        idle_b: fitting(record.idle_b, U32)?,
+        best_payload: fitting(record.best_payload, U16)?,
+        rows: rows.map(row_of).collect::<Option<_>>()?,
     };
-    record.version == VERSION
-        && record.idle_a <= U32
-        && record.idle_b <= U32
-        && record.best_payload <= U16
-        && rows.iter().all(row_fits)
-        && queue_fits(&record.queue_a)
-        && queue_fits(&record.queue_b)
-        && queue_fits(&record.queue_best)
-        && record.last[..rows.len()].iter().all(|last| last.known <= 1)
-        && wire_fits(&record.wire)
+    let last = record.last.iter().enumerate();
+    let last = last.map(|(number, last)| last_of(last, table.row(number).is_some()));
+    Some(Port {
+        bounds: record.bounds,
+        clock: record.clock,
+        credit_a: record.credit_a as i64,
+        credit_b: record.credit_b as i64,
+        queue_a: queue_of(&record.queue_a)?,
+        queue_b: queue_of(&record.queue_b)?,
+        queue_best: queue_of(&record.queue_best)?,
+        last: last.collect::<Option<_>>()?,
+        wire: wire_of(&record.wire)?,
+        table,
+    })
+}
+
+/// The row that a join's words name. All of them are in use: samples of a row
+/// that names a period are 0.
+pub fn joining_of(row: &RowWords) -> Option<Row> {
+    if row.rated == 0 && row.samples != 0 {
+        return None;
+    }
+    row_of(row)
+}
+
+fn fitting(word: u64, largest: u64) -> Option<u64> {
+    (word <= largest).then_some(word)
 }
 
 /// The first places, as many as a count says; none if it says more.
@@ -49,92 +74,56 @@ fn in_use<T>(places: &[T], count: u64) -> Option<&[T]> {
     places.get(..usize::try_from(count).ok()?)
 }
 
-fn queue_fits<const PLACES: usize>(queue: &QueueWords<PLACES>) -> bool {
-    in_use(&queue.frames, queue.count).is_some_and(|frames| frames.iter().all(frame_fits))
-}
-
-fn row_fits(row: &RowWords) -> bool {
-    row.class <= 1 && row.payload <= U16 && row.deadline <= U32 && pace_fits(row)
-}
-
-fn pace_fits(row: &RowWords) -> bool {
-    match row.rated {
-        0 => row.pace <= U32,
-        1 => row.pace <= U32 && row.samples <= U8,
-        _ => false,
-    }
-}
-
-fn frame_fits(frame: &FrameWords) -> bool {
-    frame.source <= U32 && frame.size <= U32
-}
-
-fn wire_fits(wire: &WireWords) -> bool {
-    match wire.tag {
-        0 => true,
-        1 => frame_fits(&wire.frame) && wire.left <= U32,
-        _ => false,
-    }
-}
-
-/// The port that a record names, none if a word in use does not fit its field.
-pub fn port_of(record: &Record) -> Option<Port> {
-    if !fits(record) {
-        return None;
-    }
-    let rows = in_use(&record.rows, record.count)?.iter();
-    Some(Port {
-        table: Table {
-            idle_a: record.idle_a,
-            idle_b: record.idle_b,
-            best_payload: record.best_payload,
-            rows: rows.map(row_of).collect(),
+fn row_of(row: &RowWords) -> Option<Row> {
+    Some(Row {
+        class: match row.class {
+            0 => Class::A,
+            1 => Class::B,
+            _ => return None,
         },
-        clock: record.clock,
-        credit_a: record.credit_a as i64,
-        credit_b: record.credit_b as i64,
-        queue_a: queue_of(&record.queue_a)?,
-        queue_b: queue_of(&record.queue_b)?,
-        queue_best: queue_of(&record.queue_best)?,
-        last: record
-            .last
-            .iter()
-            .map(|last| (last.known == 1).then_some(last.taken))
-            .collect(),
-        wire: match record.wire.tag {
-            0 => Wire::Free,
-            _ => Wire::Sending(frame_of(&record.wire.frame), record.wire.left),
+        payload: fitting(row.payload, U16)?,
+        pace: match row.rated {
+            0 => Pace::Period(fitting(row.pace, U32)?),
+            1 => Pace::Rated {
+                rate: fitting(row.pace, U32)?,
+                samples: fitting(row.samples, U8)?,
+            },
+            _ => return None,
         },
+        deadline: fitting(row.deadline, U32)?,
     })
 }
 
-fn row_of(row: &RowWords) -> Row {
-    Row {
-        class: match row.class {
-            0 => Class::A,
-            _ => Class::B,
-        },
-        payload: row.payload,
-        pace: match row.rated {
-            0 => Pace::Period(row.pace),
-            _ => Pace::Rated {
-                rate: row.pace,
-                samples: row.samples,
-            },
-        },
-        deadline: row.deadline,
+/// A number's last instant. Where the number is not in use it is no part, and
+/// its mark may be anything.
+fn last_of(last: &LastWords, in_use: bool) -> Option<Option<u64>> {
+    match last.known {
+        0 => Some(None),
+        1 => Some(Some(last.taken)),
+        _ => (!in_use).then_some(None),
     }
 }
 
-fn frame_of(frame: &FrameWords) -> Frame {
-    Frame {
-        mark: Mark::of(frame.source),
-        size: frame.size,
+fn frame_of(frame: &FrameWords) -> Option<Frame> {
+    Some(Frame {
+        mark: Mark::of(fitting(frame.source, U32)?),
+        size: fitting(frame.size, U32)?,
         instant: frame.taken,
-    }
+    })
 }
 
 fn queue_of<const PLACES: usize>(queue: &QueueWords<PLACES>) -> Option<VecDeque<Frame>> {
     let frames = in_use(&queue.frames, queue.count)?;
-    Some(frames.iter().map(frame_of).collect())
+    frames.iter().map(frame_of).collect()
+}
+
+fn wire_of(wire: &WireWords) -> Option<Wire> {
+    match wire.tag {
+        0 => Some(Wire::Free),
+        1 => Some(Wire::Sending(
+            frame_of(&wire.frame)?,
+            fitting(wire.left, U32)?,
+        )),
+        _ => None,
+    }
 }

@@ -2,10 +2,12 @@
 
 use simulator::port::{LAST_CLOCK, MOST_ADVANCE, MOST_BEST};
 use simulator::refusal::refuse;
-use simulator::table::{D, GAP};
+use simulator::table::{D, GAP, MOST_ROWS};
 use simulator::{Advance, Call, Class, Refusal, TAKEN};
 
-use crate::record::{wire_size, Frame, Port, Wire, BEST};
+use crate::check::{in_range, Plan};
+use crate::convert::row_of;
+use crate::record::{wire_size, Frame, Port, Table, Wire, BEST};
 
 /// The bytes of a frame that are left when it is reported ended.
 const LEFT_AT_REPORT: u32 = GAP as u32;
@@ -17,6 +19,8 @@ impl Port {
             Call::Offer(row, payload) => self.offer(row, payload).map(|()| TAKEN),
             Call::OfferBest(payload) => self.offer_best(payload).map(|()| TAKEN),
             Call::Advance(n) => self.advance(n),
+            Call::Join(number, row) => self.join(number, row).map(|()| TAKEN),
+            Call::Leave(number) => self.leave(number).map(|()| TAKEN),
         }
     }
 
@@ -25,10 +29,10 @@ impl Port {
         if self.is_broken() {
             return refuse(18, 0);
         }
-        if row >= self.table.count as u64 {
+        let place = row as usize;
+        if !self.table.is_in_use(place) {
             return refuse(11, 0);
         }
-        let place = row as usize;
         let row = self.table.rows[place];
         if payload > row.payload.into() {
             return refuse(12, 0);
@@ -93,6 +97,48 @@ impl Port {
             passed,
             ended: None,
         })
+    }
+
+    /// Puts a row at a number not in use.
+    pub fn join(&mut self, number: u64, row: simulator::Row) -> Result<(), Refusal> {
+        if self.is_broken() {
+            return refuse(18, 0);
+        }
+        let place = number as usize;
+        if place >= MOST_ROWS || self.table.is_in_use(place) {
+            return refuse(22, 0);
+        }
+        let Some(row) = row_of(&row).filter(in_range) else {
+            return refuse(5, place);
+        };
+        self.change_table(self.table.with(place, row))?;
+        self.last[place] = None;
+        Ok(())
+    }
+
+    /// Empties a number in use.
+    pub fn leave(&mut self, number: u64) -> Result<(), Refusal> {
+        if self.is_broken() {
+            return refuse(18, 0);
+        }
+        let place = number as usize;
+        if !self.table.is_in_use(place) {
+            return refuse(11, 0);
+        }
+        let waiting = self.queue_a.count + self.queue_b.count + self.queue_best.count;
+        let credits = (self.credit_a, self.credit_b);
+        if waiting > 0 || self.wire != Wire::Free || credits != (0, 0) {
+            return refuse(21, 0);
+        }
+        self.change_table(self.table.without(place))
+    }
+
+    /// Another table with its bounds, if it is accepted. Its rows are in range.
+    fn change_table(&mut self, table: Table) -> Result<(), Refusal> {
+        let plan = Plan::of(&table).expect("rows in range");
+        self.bounds = plan.bounds()?;
+        self.table = table;
+        Ok(())
     }
 }
 

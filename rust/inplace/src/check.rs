@@ -1,20 +1,23 @@
 //! The record check: every clause of the simulator's `broken`, worked out anew.
 //! The rows in use are passed over for their ranges and sums, and again for what
 //! the sums make of each; the frames once, and again only where they stand out
-//! of order. No row place behind the row count is looked at.
+//! of order. No row place behind the row count is looked at. Joins and leaves have
+//! their bounds from the same plan of the rows.
 
 use simulator::port::{LAST_CLOCK, LEAST_SIZE};
+use simulator::refusal::refuse;
 use simulator::table::{
-    D, DEADLINE_RANGE, GAP, MOST_IDLE_TOGETHER, MOST_ROWS, PAYLOAD_RANGE, PERIOD_RANGE, RATE_RANGE,
+    D, DEADLINE_RANGE, GAP, IDLE_RANGE, MOST_IDLE_TOGETHER, MOST_ROWS, PAYLOAD_RANGE, PERIOD_RANGE,
+    RATE_RANGE,
 };
-use simulator::Class;
+use simulator::{Class, Refusal};
 
 use crate::record::{wire_size, Frame, Pace, Port, Row, Table, Wire, BEST, CLASS_PLACES};
 
 /// The places for frames of rows: both class queues', and the wire's.
 const MOST_FRAMES: usize = 2 * CLASS_PLACES + 1;
 
-fn in_range(row: &Row) -> bool {
+pub(crate) fn in_range(row: &Row) -> bool {
     let pace_ok = match row.pace {
         Pace::Period(period) => PERIOD_RANGE.contains(&period.into()),
         Pace::Rated { rate, samples } => RATE_RANGE.contains(&rate.into()) && samples > 0,
@@ -36,7 +39,7 @@ struct Sums {
 /// The sums of A and of B, none if a row is out of range.
 fn sums(rows: &[Row]) -> Option<[Sums; 2]> {
     let mut sums = [Sums::default(); 2];
-    for row in rows {
+    for row in rows.iter().filter(|row| **row != Row::EMPTY) {
         if !in_range(row) {
             return None;
         }
@@ -53,6 +56,7 @@ fn sums(rows: &[Row]) -> Option<[Sums; 2]> {
 struct Lane {
     idle: u64,
     send: u64,
+    sums: Sums,
     /// S × L and I × H: how far the credit may be below 0, and above.
     debt: u64,
     saved: u64,
@@ -67,6 +71,7 @@ impl Lane {
         Lane {
             idle,
             send,
+            sums,
             debt,
             saved,
             base: saved + D * sums.total + debt,
@@ -82,70 +87,120 @@ impl Lane {
         self.base - self.send * row.size()
     }
 
-    fn residence(&self, row: &Row) -> u64 {
-        self.scaled(row) / self.idle
-    }
-
     /// Whether a row's residence is above n. Nothing is divided.
     fn is_above(&self, row: &Row, n: u64) -> bool {
         self.scaled(row) >= self.idle * (n + 1)
     }
+
+    /// Whether it is n. Nothing is divided here either.
+    fn is_residence(&self, row: &Row, n: u64) -> bool {
+        self.scaled(row) >= self.idle * n && !self.is_above(row, n)
+    }
 }
 
-/// What an accepted table comes to.
-struct Plan<'a> {
+/// What a table comes to whose values are in range.
+pub(crate) struct Plan<'a> {
     rows: &'a [Row],
     /// Of A and of B.
     lanes: [Lane; 2],
 }
 
 impl Plan<'_> {
-    /// The plan of a table, none if it is not accepted.
-    fn of(table: &Table) -> Option<Plan<'_>> {
+    /// The plan of a table, none if a value is out of range. Its numbers may be empty.
+    #[inline]
+    pub(crate) fn of(table: &Table) -> Option<Plan<'_>> {
         let rows = table.rows.get(..table.count)?;
         let (idle_a, idle_b) = (table.idle_a.into(), table.idle_b.into());
-        if rows.is_empty()
-            || idle_a + idle_b > MOST_IDLE_TOGETHER
+        if !IDLE_RANGE.contains(&idle_a)
+            || !IDLE_RANGE.contains(&idle_b)
             || !PAYLOAD_RANGE.contains(&table.best_payload.into())
         {
             return None;
         }
         let [a, b] = sums(rows)?;
-        let fits = |idle, sums: Sums| (idle == 0) == (sums.rows == 0) && sums.shares <= idle;
-        if !fits(idle_a, a) || !fits(idle_b, b) {
-            return None;
-        }
         let best = wire_size(table.best_payload);
         let behind = (D * best).max(idle_a * b.largest).div_ceil(D - idle_a);
         let lane_a = Lane::new(idle_a, a, b.largest.max(best));
         let lane_b = Lane::new(idle_b, b, a.largest + behind);
-        let plan = Plan {
+        Some(Plan {
             rows,
             lanes: [lane_a, lane_b],
-        };
-        plan.is_kept().then_some(plan)
+        })
     }
 
-    /// Whether no bound is above its deadline, and the frames that a class's rows
-    /// may have in the port have places.
-    fn is_kept(&self) -> bool {
+    /// The rules of slopes and shares.
+    #[inline]
+    fn check_slopes(&self) -> Result<(), Refusal> {
+        let [a, b] = &self.lanes;
+        let fits = |lane: &Lane| (lane.idle == 0) == (lane.sums.rows == 0);
+        if !fits(a) || !fits(b) || a.idle + b.idle > MOST_IDLE_TOGETHER {
+            return refuse(8, 0);
+        }
+        let above = |lane: &Lane| lane.sums.shares > lane.idle;
+        let place = self.lanes.iter().position(above);
+        place.map_or(Ok(()), |place| refuse(9, place))
+    }
+
+    /// The rows' bounds, if the table is accepted.
+    pub(crate) fn bounds(&self) -> Result<[u64; MOST_ROWS], Refusal> {
+        self.check_slopes()?;
+        let mut bounds = [0; MOST_ROWS];
         let mut in_class = [0; 2];
-        for row in self.rows {
-            let (lane, period) = (self.lane(row), row.period());
-            if lane.is_above(row, u64::from(row.deadline) + GAP) {
+        for (place, row) in self.rows.iter().enumerate() {
+            if *row == Row::EMPTY {
+                continue;
+            }
+            let lane = self.lane(row);
+            let residence = lane.scaled(row) / lane.idle;
+            bounds[place] = residence - GAP;
+            if bounds[place] > row.deadline.into() {
+                return refuse(10, place);
+            }
+            in_class[row.class as usize] += most_of(row, residence);
+        }
+        let above = |&frames: &u64| frames > CLASS_PLACES as u64;
+        let place = in_class.iter().position(above);
+        place.map_or(Ok(bounds), |place| refuse(20, place))
+    }
+
+    /// Whether the highest number is in use, the table accepted and its bounds are
+    /// these.
+    fn is_sound(&self, bounds: &[u64; MOST_ROWS]) -> bool {
+        let top = self.rows.last();
+        top.is_some_and(|row| *row != Row::EMPTY)
+            && self.check_slopes().is_ok()
+            && self.is_kept(bounds)
+    }
+
+    /// Whether the bounds are the rows' and none is above its deadline, and the
+    /// frames that a class's rows may have in the port have places.
+    fn is_kept(&self, bounds: &[u64; MOST_ROWS]) -> bool {
+        let mut in_class = [0; 2];
+        for (row, &bound) in self.rows.iter().zip(bounds) {
+            if *row == Row::EMPTY {
+                if bound != 0 {
+                    return false;
+                }
+                continue;
+            }
+            if bound > row.deadline.into() || !self.lane(row).is_residence(row, bound + GAP) {
                 return false;
             }
-            in_class[row.class as usize] += if lane.is_above(row, period) {
-                lane.residence(row).div_ceil(period)
-            } else {
-                1
-            };
+            in_class[row.class as usize] += most_of(row, bound + GAP);
         }
         in_class.iter().all(|&frames| frames <= CLASS_PLACES as u64)
     }
 
     fn lane(&self, row: &Row) -> &Lane {
         &self.lanes[row.class as usize]
+    }
+}
+
+/// How many frames a row may have in the port.
+fn most_of(row: &Row, residence: u64) -> u64 {
+    match row.period() {
+        period if period < residence => residence.div_ceil(period),
+        _ => 1,
     }
 }
 
@@ -172,7 +227,8 @@ impl Notes<'_> {
         let Some(row) = self.plan.rows.get(place) else {
             return false;
         };
-        if queue.is_some_and(|class| class != row.class)
+        if *row == Row::EMPTY
+            || queue.is_some_and(|class| class != row.class)
             || !size_ok(frame, row.size())
             || frame.taken > self.clock
             || !self.plan.lane(row).is_above(row, self.clock - frame.taken)
@@ -225,7 +281,8 @@ impl Port {
         let Some(plan) = Plan::of(&self.table) else {
             return true;
         };
-        let sound = self.clock <= LAST_CLOCK
+        let sound = plan.is_sound(&self.bounds)
+            && self.clock <= LAST_CLOCK
             && plan.lanes[0].credit_ok(self.credit_a)
             && plan.lanes[1].credit_ok(self.credit_b)
             && self.instants_ok()
@@ -234,10 +291,11 @@ impl Port {
         !sound
     }
 
-    /// The last instants of the rows in use.
+    /// The last instants of the numbers in use.
     fn instants_ok(&self) -> bool {
-        let mut in_use = self.last[..self.table.count].iter().flatten();
-        in_use.all(|&last| last <= self.clock)
+        let places = self.last[..self.table.count].iter().zip(&self.table.rows);
+        let mut in_use = places.filter(|(_, row)| **row != Row::EMPTY);
+        in_use.all(|(last, _)| last.is_none_or(|last| last <= self.clock))
     }
 
     /// The bytes left on the wire, and the best-effort frames.

@@ -3,17 +3,9 @@
 use std::collections::VecDeque;
 
 use simulator::table::MOST_ROWS;
-use simulator::{Class, Mark};
+use simulator::Mark;
 
 use crate::record::{Frame, Pace, Port, Queue, Row, Table, Wire};
-
-/// What stands in a row place not in use.
-const NO_ROW: Row = Row {
-    class: Class::A,
-    payload: 0,
-    pace: Pace::Period(0),
-    deadline: 0,
-};
 
 impl Port {
     /// The fresh port of a table, none if the table does not fit.
@@ -36,6 +28,7 @@ impl Port {
             queue_a: queue_of(&port.queue_a)?,
             queue_b: queue_of(&port.queue_b)?,
             queue_best: queue_of(&port.queue_best)?,
+            bounds: port.bounds,
             last,
             wire: match &port.wire {
                 simulator::Wire::Free => Wire::Free,
@@ -49,7 +42,7 @@ impl Port {
 
 fn table_of(table: &simulator::Table) -> Option<Table> {
     let count = table.rows.len();
-    let mut rows = [NO_ROW; MOST_ROWS];
+    let mut rows = [Row::EMPTY; MOST_ROWS];
     for (place, row) in rows.get_mut(..count)?.iter_mut().zip(&table.rows) {
         *place = row_of(row)?;
     }
@@ -62,7 +55,7 @@ fn table_of(table: &simulator::Table) -> Option<Table> {
     })
 }
 
-fn row_of(row: &simulator::Row) -> Option<Row> {
+pub(crate) fn row_of(row: &simulator::Row) -> Option<Row> {
     Some(Row {
         class: row.class,
         payload: row.payload.try_into().ok()?,
@@ -101,15 +94,8 @@ fn queue_of<const PLACES: usize>(waiting: &VecDeque<simulator::Frame>) -> Option
 impl From<&Port> for simulator::Port {
     fn from(port: &Port) -> simulator::Port {
         simulator::Port {
-            table: simulator::Table {
-                idle_a: port.table.idle_a.into(),
-                idle_b: port.table.idle_b.into(),
-                best_payload: port.table.best_payload.into(),
-                rows: port.table.rows[..port.table.count]
-                    .iter()
-                    .map(|&row| row.into())
-                    .collect(),
-            },
+            table: (&port.table).into(),
+            bounds: port.bounds,
             clock: port.clock,
             credit_a: port.credit_a,
             credit_b: port.credit_b,
@@ -121,6 +107,18 @@ impl From<&Port> for simulator::Port {
                 Wire::Free => simulator::Wire::Free,
                 Wire::Sending(frame, left) => simulator::Wire::Sending(frame.into(), left.into()),
             },
+        }
+    }
+}
+
+impl From<&Table> for simulator::Table {
+    fn from(table: &Table) -> simulator::Table {
+        let rows = table.rows[..table.count].iter();
+        simulator::Table {
+            idle_a: table.idle_a.into(),
+            idle_b: table.idle_b.into(),
+            best_payload: table.best_payload.into(),
+            rows: rows.map(|&row| row.into()).collect(),
         }
     }
 }

@@ -27,7 +27,7 @@ pub struct Row {
     pub deadline: u32,
 }
 
-/// A table: the first `count` places are rows.
+/// A table: the first `count` places are rows, or empty.
 #[derive(Clone, Copy, Debug, PartialEq, Eq)]
 pub struct Table {
     pub idle_a: u32,
@@ -70,6 +70,8 @@ pub struct Port {
     pub queue_a: Queue<CLASS_PLACES>,
     pub queue_b: Queue<CLASS_PLACES>,
     pub queue_best: Queue<MOST_BEST>,
+    /// Each row's bound, 0 at an empty number.
+    pub bounds: [u64; MOST_ROWS],
     /// The instant of each row's last taken frame.
     pub last: [Option<u64>; MOST_ROWS],
     pub wire: Wire,
@@ -81,6 +83,14 @@ pub(crate) fn wire_size(payload: u16) -> u64 {
 }
 
 impl Row {
+    /// What stands at an empty number.
+    pub const EMPTY: Row = Row {
+        class: Class::A,
+        payload: 0,
+        pace: Pace::Period(0),
+        deadline: 0,
+    };
+
     /// C, the wire size.
     pub(crate) fn size(&self) -> u64 {
         wire_size(self.payload)
@@ -92,6 +102,34 @@ impl Row {
             Pace::Period(period) => period.into(),
             Pace::Rated { rate, samples } => u64::from(samples) * SECOND / u64::from(rate),
         }
+    }
+}
+
+impl Table {
+    /// Whether a number below the row count is not empty. The count is no larger
+    /// than there are places.
+    pub(crate) fn is_in_use(&self, number: usize) -> bool {
+        number < self.count && self.rows[number] != Row::EMPTY
+    }
+
+    /// The table with a row at a number not in use. Those between the row count
+    /// and the number are empty.
+    pub(crate) fn with(mut self, number: usize, row: Row) -> Table {
+        if number >= self.count {
+            self.rows[self.count..number].fill(Row::EMPTY);
+            self.count = number + 1;
+        }
+        self.rows[number] = row;
+        self
+    }
+
+    /// The table with a number emptied, and the row count as it is then.
+    pub(crate) fn without(mut self, number: usize) -> Table {
+        self.rows[number] = Row::EMPTY;
+        let mut rows = self.rows[..self.count].iter();
+        let highest = rows.rposition(|row| *row != Row::EMPTY);
+        self.count = highest.map_or(0, |highest| highest + 1);
+        self
     }
 }
 

@@ -14,8 +14,8 @@ pub const ANSWER_SIZE: usize = 40;
 pub struct Answer {
     /// The refusal's number, or 0.
     pub number: u64,
-    /// The byte-times passed.
-    pub passed: u64,
+    /// The byte-times passed, or the refusal's place.
+    pub passed_or_place: u64,
     /// The row of the frame reported ended; 32 for best effort, 33 for none.
     pub source: u64,
     /// That frame's wire size.
@@ -25,13 +25,14 @@ pub struct Answer {
 }
 
 impl Answer {
-    /// The answer to an offer that is taken.
+    /// The answer to an offer, a join or a leave that is taken.
     pub const TAKEN: Answer = Answer::passed(0);
 
     /// The answer to a call that is refused.
-    pub const fn refused(number: u64) -> Answer {
+    pub const fn refused(number: u64, place: u64) -> Answer {
         Answer {
             number,
+            passed_or_place: place,
             ..Answer::TAKEN
         }
     }
@@ -40,7 +41,7 @@ impl Answer {
     pub const fn passed(n: u64) -> Answer {
         Answer {
             number: 0,
-            passed: n,
+            passed_or_place: n,
             source: NO_FRAME,
             size: 0,
             taken: 0,
@@ -50,7 +51,7 @@ impl Answer {
     /// What the words say.
     pub fn said(self) -> Result<Advance, Refusal> {
         if self.number != 0 {
-            return refuse(self.number as u8, 0);
+            return refuse(self.number as u8, self.passed_or_place as usize);
         }
         let frame = Frame {
             mark: Mark::of(self.source),
@@ -58,7 +59,7 @@ impl Answer {
             instant: self.taken,
         };
         Ok(Advance {
-            passed: self.passed,
+            passed: self.passed_or_place,
             ended: (self.source != NO_FRAME).then_some(frame),
         })
     }
@@ -68,7 +69,7 @@ impl Answer {
         let mut next = || words.next().expect("five words");
         Answer {
             number: next(),
-            passed: next(),
+            passed_or_place: next(),
             source: next(),
             size: next(),
             taken: next(),
@@ -83,7 +84,13 @@ impl Answer {
     }
 
     pub fn bytes(self) -> [u8; ANSWER_SIZE] {
-        let words = [self.number, self.passed, self.source, self.size, self.taken];
+        let words = [
+            self.number,
+            self.passed_or_place,
+            self.source,
+            self.size,
+            self.taken,
+        ];
         let mut bytes = [0; ANSWER_SIZE];
         put_words(&words, &mut bytes);
         bytes
@@ -93,10 +100,10 @@ impl Answer {
 impl From<Result<Advance, Refusal>> for Answer {
     fn from(said: Result<Advance, Refusal>) -> Answer {
         match said {
-            Err(refusal) => Answer::refused(refusal.number.into()),
+            Err(refusal) => Answer::refused(refusal.number.into(), refusal.place),
             Ok(Advance { passed, ended }) => ended.map_or(Answer::passed(passed), |frame| Answer {
                 number: 0,
-                passed,
+                passed_or_place: passed,
                 source: frame.mark.number(),
                 size: frame.size,
                 taken: frame.instant,

@@ -8,7 +8,7 @@ mod records;
 mod words;
 
 pub use answers::{Answer, ANSWER_SIZE};
-pub use calls::{call_bytes, list_bytes, CALL_SIZE};
+pub use calls::{call_bytes, list_bytes, CALL_SIZE, CALL_WORDS};
 pub use library::{bounds, call, open, replay, rewrite, BOUNDS_SIZE};
 pub use records::{
     FrameWords, LastWords, QueueWords, Record, RowWords, WireWords, RECORD_SIZE, RECORD_WORDS,

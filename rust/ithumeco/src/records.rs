@@ -7,16 +7,17 @@ use simulator::{Class, Frame, Pace, Port, Row, Wire};
 use crate::words::{put_words, words, WORD_SIZE};
 
 /// The version of the layout and of what its words say, a record's first word.
-pub const VERSION: u64 = 1_000_004;
+pub const VERSION: u64 = 1_000_005;
 
 /// The size of a record in words.
-pub const RECORD_WORDS: usize = 704;
+pub const RECORD_WORDS: usize = 736;
 
 /// The size of a record in bytes.
 pub const RECORD_SIZE: usize = RECORD_WORDS * WORD_SIZE;
 
 /// A row: class (0 A, 1 B), payload, deadline; a mark, 1 if it names a sample
-/// rate, else 0; the rate or the period; and behind a rate the samples.
+/// rate, else 0; the rate or the period; and behind a rate the samples. Those of
+/// an empty number are zeros, the samples anything.
 #[derive(Clone, Copy, Debug, Default, PartialEq, Eq)]
 pub struct RowWords {
     pub class: u64,
@@ -74,6 +75,8 @@ pub struct Record {
     pub queue_b: QueueWords<64>,
     pub queue_best: QueueWords<16>,
     pub last: [LastWords; 32],
+    /// The bounds that the port keeps.
+    pub bounds: [u64; 32],
     pub wire: WireWords,
 }
 
@@ -120,6 +123,7 @@ impl Record {
             queue_b: QueueWords::EMPTY,
             queue_best: QueueWords::EMPTY,
             last: Default::default(),
+            bounds: [0; 32],
             wire: WireWords::default(),
         }
     }
@@ -148,6 +152,9 @@ impl Record {
         for last in &mut self.last {
             visit(&mut last.known);
             visit(&mut last.taken);
+        }
+        for bound in &mut self.bounds {
+            visit(bound);
         }
         visit(&mut self.wire.tag);
         self.wire.frame.each(visit);
@@ -196,6 +203,15 @@ impl RowWords {
     }
 }
 
+/// A row's words: zeros in the samples of one that names a period.
+impl From<&Row> for RowWords {
+    fn from(row: &Row) -> RowWords {
+        let mut words = RowWords::default();
+        words.store(row);
+        words
+    }
+}
+
 impl<const PLACES: usize> QueueWords<PLACES> {
     fn store(&mut self, waiting: &VecDeque<Frame>) {
         self.count = waiting.len() as u64;
@@ -223,11 +239,14 @@ impl Record {
         self.queue_a.store(&port.queue_a);
         self.queue_b.store(&port.queue_b);
         self.queue_best.store(&port.queue_best);
-        let in_use = port.last.iter().take(table.rows.len());
-        for (place, last) in self.last.iter_mut().zip(in_use) {
-            place.known = u64::from(last.is_some());
-            place.taken = last.unwrap_or(place.taken);
+        for (number, (place, last)) in self.last.iter_mut().zip(&port.last).enumerate() {
+            if table.row(number).is_some() {
+                place.known = u64::from(last.is_some());
+                place.taken = last.unwrap_or(place.taken);
+            }
         }
+        let kept = table.rows.len().min(self.bounds.len());
+        self.bounds[..kept].copy_from_slice(&port.bounds[..kept]);
         match &port.wire {
             Wire::Free => self.wire.tag = 0,
             Wire::Sending(frame, left) => {

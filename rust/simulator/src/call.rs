@@ -4,8 +4,10 @@ use std::fmt;
 
 use crate::port::{Advance, Port};
 use crate::refusal::Refusal;
+use crate::table::Row;
 
-/// "These three are the calls in the lists of demand 3."
+/// "These three are the calls in the lists of demand 3." C-15: "Lists now hold
+/// joins and leaves too".
 #[derive(Clone, Copy, Debug, PartialEq, Eq)]
 pub enum Call {
     /// An offer to a row: row, payload.
@@ -14,9 +16,14 @@ pub enum Call {
     OfferBest(u64),
     /// An advance by a count of byte-times.
     Advance(u64),
+    /// A join: number, row.
+    Join(u64, Row),
+    /// A leave: number.
+    Leave(u64),
 }
 
-/// "An offer taken prints `0 0 33`": no byte-time passed and no frame ended.
+/// "An offer taken prints `0 0 33`": no byte-time passed and no frame ended. It
+/// is the answer to a join or a leave that is taken too.
 pub const TAKEN: Advance = Advance {
     passed: 0,
     ended: None,
@@ -29,18 +36,23 @@ impl Port {
             Call::Offer(row, payload) => self.offer(row, payload).map(|()| TAKEN),
             Call::OfferBest(payload) => self.offer_best(payload).map(|()| TAKEN),
             Call::Advance(n) => self.advance(n),
+            Call::Join(number, row) => self.join(number, row).map(|()| TAKEN),
+            Call::Leave(number) => self.leave(number).map(|()| TAKEN),
         }
     }
 }
 
 /// The line that states a call, without its newline: "`o ROW PAYLOAD`, `b
-/// PAYLOAD`, `a N`".
+/// PAYLOAD`, `a N`". No line states a join or a leave: `portrun` stops at their
+/// words.
 impl fmt::Display for Call {
     fn fmt(&self, out: &mut fmt::Formatter<'_>) -> fmt::Result {
         match self {
             Call::Offer(row, payload) => write!(out, "o {row} {payload}"),
             Call::OfferBest(payload) => write!(out, "b {payload}"),
             Call::Advance(n) => write!(out, "a {n}"),
+            Call::Join(number, row) => write!(out, "join {number}, {row:?}"),
+            Call::Leave(number) => write!(out, "leave {number}"),
         }
     }
 }
@@ -80,6 +92,13 @@ mod tests {
         assert_eq!(call_of(b"a 007"), Some(Call::Advance(7)));
         for line in cases::lines::OF_NO_FORM {
             assert_eq!(call_of(line.as_bytes()), None, "{line:?}");
+        }
+    }
+
+    #[test]
+    fn a_join_and_a_leave_have_none() {
+        for call in [Call::Join(3, Row::EMPTY), Call::Leave(3)] {
+            assert_eq!(call_of(call.to_string().as_bytes()), None);
         }
     }
 

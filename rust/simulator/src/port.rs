@@ -3,7 +3,9 @@
 use std::collections::VecDeque;
 
 use crate::refusal::{refuse, Refusal};
-use crate::table::{accept, wire_size, Class, Table, GAP, MOST_IN_CLASS, MOST_ROWS};
+use crate::table::{
+    accept, check_slopes, wire_size, Class, Row, Table, GAP, MOST_IN_CLASS, MOST_ROWS,
+};
 
 /// "a clock (0 to 1,099,511,627,775)"
 pub const LAST_CLOCK: u64 = 1_099_511_627_775;
@@ -63,10 +65,13 @@ pub enum Wire {
 
 /// "A port has its table, a clock, two credits, three first-in-first-out
 /// queues (A, B, best effort), the instant of each row's last taken frame, and
-/// the wire." The record may hold anything; every call begins with the check.
+/// the wire." C-15: "The port keeps its bounds". The record may hold anything;
+/// every call begins with the check.
 #[derive(Clone, Debug)]
 pub struct Port {
     pub table: Table,
+    /// C-15: "0 at an empty number below the row count"
+    pub bounds: [u64; MOST_ROWS],
     pub clock: u64,
     pub credit_a: i64,
     pub credit_b: i64,
@@ -79,10 +84,12 @@ pub struct Port {
 }
 
 /// "Ports are compared by these parts; a record's queue and row places not in
-/// use belong to none of them and may hold anything."
+/// use belong to none of them and may hold anything." The instant of an empty
+/// number's last frame is none of them either.
 impl PartialEq for Port {
     fn eq(&self, other: &Port) -> bool {
         self.table == other.table
+            && self.kept_bounds().eq(other.kept_bounds())
             && self.clock == other.clock
             && self.credit_a == other.credit_a
             && self.credit_b == other.credit_b
@@ -116,6 +123,7 @@ impl Port {
     /// "Fresh: clock and credits 0, no frames, no instants."
     pub fn fresh(table: Table) -> Port {
         Port {
+            bounds: bounds_of(&table),
             table,
             clock: 0,
             credit_a: 0,
@@ -128,9 +136,15 @@ impl Port {
         }
     }
 
-    /// The last instants of the rows in use.
+    /// The bounds of the numbers below the row count.
+    fn kept_bounds(&self) -> impl Iterator<Item = &u64> {
+        self.bounds.iter().take(self.table.rows.len())
+    }
+
+    /// The last instants of the numbers in use.
     fn last_in_use(&self) -> impl Iterator<Item = &Option<u64>> {
-        self.last.iter().take(self.table.rows.len())
+        let numbers = self.table.in_use().map(|(number, _)| number);
+        numbers.filter_map(|number| self.last.get(number))
     }
 
     /// Every frame in the port with its place.
@@ -158,10 +172,18 @@ impl Port {
     }
 }
 
+/// The bounds of an accepted table. One that is not accepted has none, and its
+/// port is broken.
+fn bounds_of(table: &Table) -> [u64; MOST_ROWS] {
+    accept(table).map_or([0; MOST_ROWS], |accepted| accepted.bounds())
+}
+
 /// The names of the clauses by which a record is broken, in the order in which
 /// `broken` tries them.
-pub const CLAUSES: [&str; 15] = [
+pub const CLAUSES: [&str; 17] = [
     "table not accepted",
+    "row count not one above the highest number in use",
+    "a bound is not the one worked out afresh",
     "clock out of range",
     "credit of A out of range",
     "credit of B out of range",
@@ -188,25 +210,34 @@ pub fn broken(port: &Port) -> Option<&'static str> {
         return Some(CLAUSES[0]);
     };
 
-    // "its clock or a credit is out of range (−S × L to I × H)"
-    if port.clock > LAST_CLOCK {
+    // C-15: "A record with other bounds or another row count is broken."
+    if table.rows.len() != table.count_in_use() {
         return Some(CLAUSES[1]);
     }
-    if !accepted.a.credit_range().contains(&port.credit_a) {
+    let afresh = &accepted.bounds()[..table.rows.len()];
+    if port.kept_bounds().ne(afresh) {
         return Some(CLAUSES[2]);
     }
-    if !accepted.b.credit_range().contains(&port.credit_b) {
+
+    // "its clock or a credit is out of range (−S × L to I × H)"
+    if port.clock > LAST_CLOCK {
         return Some(CLAUSES[3]);
+    }
+    if !accepted.a.credit_range().contains(&port.credit_a) {
+        return Some(CLAUSES[4]);
+    }
+    if !accepted.b.credit_range().contains(&port.credit_b) {
+        return Some(CLAUSES[5]);
     }
 
     // "more than 16 best-effort frames wait"
     if port.queue_best.len() > MOST_BEST {
-        return Some(CLAUSES[4]);
+        return Some(CLAUSES[6]);
     }
 
     // "a frame names no row of the table"
-    if port.row_frames().any(|(row, _)| row >= table.rows.len()) {
-        return Some(CLAUSES[5]);
+    if port.row_frames().any(|(row, _)| table.row(row).is_none()) {
+        return Some(CLAUSES[7]);
     }
 
     // "is in the wrong queue"
@@ -221,7 +252,7 @@ pub fn broken(port: &Port) -> Option<&'static str> {
         .frames()
         .any(|(place, frame)| place != Place::Wire && place != right_queue(frame))
     {
-        return Some(CLAUSES[6]);
+        return Some(CLAUSES[8]);
     }
 
     // "or has a size outside 84 to its row's C (best effort: LC)"
@@ -233,22 +264,22 @@ pub fn broken(port: &Port) -> Option<&'static str> {
         .frames()
         .any(|(_, frame)| !(LEAST_SIZE..=largest_size(frame)).contains(&frame.size))
     {
-        return Some(CLAUSES[7]);
+        return Some(CLAUSES[9]);
     }
 
     // "bytes left are 0 or above the size"
     if let Wire::Sending(frame, left) = port.wire {
         if left == 0 || left > frame.size {
-            return Some(CLAUSES[8]);
+            return Some(CLAUSES[10]);
         }
     }
 
     // "an instant of a frame or of a row in use is after the clock"
     if port.frames().any(|(_, frame)| frame.instant > port.clock) {
-        return Some(CLAUSES[9]);
+        return Some(CLAUSES[11]);
     }
     if port.last_in_use().flatten().any(|&last| last > port.clock) {
-        return Some(CLAUSES[10]);
+        return Some(CLAUSES[12]);
     }
 
     // The rows' frames, in any places and any order, by row and the oldest
@@ -262,7 +293,7 @@ pub fn broken(port: &Port) -> Option<&'static str> {
     // its bound divided by its period, rounded up". C-13: "The frame count of
     // C-12 and the age in a broken record use the old figure."
     if rows().any(|frames| frames.len() as u64 > accepted.most[frames[0].0]) {
-        return Some(CLAUSES[11]);
+        return Some(CLAUSES[13]);
     }
 
     // C-12: "or two taken less than a period apart"
@@ -271,7 +302,7 @@ pub fn broken(port: &Port) -> Option<&'static str> {
         pair[1].1 - older < table.rows[row].period()
     };
     if rows().any(|frames| frames.windows(2).any(too_near)) {
-        return Some(CLAUSES[12]);
+        return Some(CLAUSES[14]);
     }
 
     // "a row's frame wasn't taken at the row's last instant", by C-12 "the
@@ -280,7 +311,7 @@ pub fn broken(port: &Port) -> Option<&'static str> {
         .filter_map(|frames| frames.last())
         .any(|&(row, newest)| port.last.get(row) != Some(&Some(newest)))
     {
-        return Some(CLAUSES[13]);
+        return Some(CLAUSES[15]);
     }
 
     // "a row's frame is as old as its bound or older", by C-13 the old figure
@@ -288,7 +319,7 @@ pub fn broken(port: &Port) -> Option<&'static str> {
         .iter()
         .any(|&(row, instant)| port.clock - instant >= accepted.residences[row])
     {
-        return Some(CLAUSES[14]);
+        return Some(CLAUSES[16]);
     }
 
     None
@@ -302,12 +333,11 @@ impl Port {
         if broken(self).is_some() {
             return refuse(18, 0);
         }
-        // "11, no such row."
-        if row >= self.table.rows.len() as u64 {
-            return refuse(11, 0);
-        }
+        // "11, no such row." C-15: "An empty number answers 11."
         let place = row as usize;
-        let row = self.table.rows[place];
+        let Some(&row) = self.table.row(place) else {
+            return refuse(11, 0);
+        };
         // "12, payload above the row's."
         if payload > row.payload {
             return refuse(12, 0);
@@ -380,6 +410,58 @@ impl Port {
             passed += 1;
         }
         Ok(Advance { passed, ended })
+    }
+
+    /// C-15: "A join puts a row at a named unused number, and the port goes on,
+    /// all its other parts as they were, if the enlarged table would be
+    /// accepted." "A join checks 18, 22, 5, 8, 9, 10, 20".
+    pub fn join(&mut self, number: u64, row: Row) -> Result<(), Refusal> {
+        if broken(self).is_some() {
+            return refuse(18, 0);
+        }
+        // "22, a join at a number in use or above 31."
+        let place = number as usize;
+        if number >= MOST_ROWS as u64 || self.table.row(place).is_some() {
+            return refuse(22, 0);
+        }
+        // An empty number "handed in to be ... joined ... is 5, place its row".
+        if !row.in_range() {
+            return refuse(5, place);
+        }
+        // "a first can't join (8)". The other rows are in range.
+        let enlarged = self.table.with(place, row);
+        accept(&enlarged)?;
+        self.change_table(enlarged);
+        // "a later join may use the number, with no last instant"
+        self.last[place] = None;
+        Ok(())
+    }
+
+    /// C-15: "A leave empties a row's number and touches no other part". "a
+    /// leave checks 18, 11, 21, 8."
+    pub fn leave(&mut self, number: u64) -> Result<(), Refusal> {
+        if broken(self).is_some() {
+            return refuse(18, 0);
+        }
+        let place = number as usize;
+        if self.table.row(place).is_none() {
+            return refuse(11, 0);
+        }
+        // "21, a leave with any frame waiting or on the wire or a credit not 0"
+        if self.frames().next().is_some() || self.credit_a != 0 || self.credit_b != 0 {
+            return refuse(21, 0);
+        }
+        // "Slopes never change, so a class's last row can't leave"
+        let rest = self.table.without(place);
+        check_slopes(&rest)?;
+        self.change_table(rest);
+        Ok(())
+    }
+
+    /// "after each join or leave they equal those worked out afresh"
+    fn change_table(&mut self, table: Table) {
+        self.bounds = bounds_of(&table);
+        self.table = table;
     }
 }
 

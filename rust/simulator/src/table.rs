@@ -96,7 +96,7 @@ pub struct Row {
 
 /// "A table has I of A and of B, the best-effort payload and 1 to 32 rows,
 /// numbered from 0." The numbers and the row count may hold anything until
-/// the table is opened.
+/// the table is opened. By C-15 a number below the row count may be empty.
 #[derive(Clone, Debug, PartialEq, Eq)]
 pub struct Table {
     pub idle_a: u64,
@@ -111,6 +111,24 @@ pub fn wire_size(payload: u64) -> u64 {
 }
 
 impl Row {
+    /// What stands at an empty number.
+    pub const EMPTY: Row = Row {
+        class: Class::A,
+        payload: 0,
+        pace: Pace::Period(0),
+        deadline: 0,
+    };
+
+    /// Whether the values are in their ranges, "in a row payload, period,
+    /// deadline". C-11: "Opening checks rate and samples under 5 where the
+    /// period is checked." C-12: the deadline's range is the same "whatever the
+    /// period". An empty row's deadline is out of range.
+    pub fn in_range(&self) -> bool {
+        PAYLOAD_RANGE.contains(&self.payload)
+            && self.pace.in_range()
+            && DEADLINE_RANGE.contains(&self.deadline)
+    }
+
     /// "C is a row's wire size."
     pub fn size(&self) -> u64 {
         wire_size(self.payload)
@@ -143,8 +161,6 @@ pub struct Figures {
     pub shares: u64,
     /// H
     pub blocking: u64,
-    /// How many rows the class has.
-    pub rows: usize,
 }
 
 impl Figures {
@@ -177,10 +193,49 @@ impl Figures {
     }
 }
 
+/// Which numbers are in use.
+impl Table {
+    /// The row at a number in use: one below the row count that is not empty.
+    pub fn row(&self, number: usize) -> Option<&Row> {
+        self.rows.get(number).filter(|row| **row != Row::EMPTY)
+    }
+
+    /// The numbers in use with their rows. C-15: "An empty number counts in no
+    /// formula".
+    pub fn in_use(&self) -> impl DoubleEndedIterator<Item = (usize, &Row)> {
+        (0..self.rows.len()).filter_map(|number| Some((number, self.row(number)?)))
+    }
+
+    /// C-15: "the row count is one above the highest number in use"
+    pub fn count_in_use(&self) -> usize {
+        let highest = self.in_use().next_back();
+        highest.map_or(0, |(number, _)| number + 1)
+    }
+
+    /// The table with a row at a number not in use. Those between the row count
+    /// and the number are empty.
+    pub fn with(&self, number: usize, row: Row) -> Table {
+        let mut table = self.clone();
+        let count = table.rows.len().max(number + 1);
+        table.rows.resize(count, Row::EMPTY);
+        table.rows[number] = row;
+        table
+    }
+
+    /// The table with a number emptied, and the row count as it is then.
+    pub fn without(&self, number: usize) -> Table {
+        let mut table = self.clone();
+        table.rows[number] = Row::EMPTY;
+        table.rows.truncate(table.count_in_use());
+        table
+    }
+}
+
 /// The questions about a table whose row count and values are in range.
 impl Table {
     fn of(&self, class: Class) -> impl Iterator<Item = &Row> {
-        self.rows.iter().filter(move |row| row.class == class)
+        let rows = self.in_use().map(|(_, row)| row);
+        rows.filter(move |row| row.class == class)
     }
 
     /// The idle slope I of a class.
@@ -234,34 +289,42 @@ impl Table {
             sum: self.of(class).map(Row::size).sum(),
             shares: self.of(class).map(Row::share).sum(),
             blocking: self.blocking(class),
-            rows: self.of(class).count(),
         }
     }
 }
 
-/// Refusals 3 and 5, which opening and writing share.
-pub fn check_ranges(table: &Table) -> Result<(), Refusal> {
+/// The row count and the header's values.
+fn check_header(table: &Table) -> Result<(), Refusal> {
     // "3, row count not 1 to 32."
     if !(1..=MOST_ROWS).contains(&table.rows.len()) {
         return refuse(3, 0);
     }
-    // "5, a value out of range, place its row, or 32 for a header value
-    // (header first; in a row payload, period, deadline)." C-11: "Opening checks
-    // rate and samples under 5 where the period is checked." C-12: the deadline's
-    // range is the same "whatever the period".
+    // "5, a value out of range, place its row, or 32 for a header value (header
+    // first ...)"
     if !IDLE_RANGE.contains(&table.idle_a)
         || !IDLE_RANGE.contains(&table.idle_b)
         || !PAYLOAD_RANGE.contains(&table.best_payload)
     {
         return refuse(5, HEADER_PLACE);
     }
-    for (place, row) in table.rows.iter().enumerate() {
-        if !PAYLOAD_RANGE.contains(&row.payload)
-            || !row.pace.in_range()
-            || !DEADLINE_RANGE.contains(&row.deadline)
-        {
-            return refuse(5, place);
-        }
+    Ok(())
+}
+
+/// Refusals 3 and 5, which opening and writing share. C-15: "Files and openings
+/// still have no empty numbers: one handed in to be opened, joined or written
+/// is 5, place its row."
+pub fn check_ranges(table: &Table) -> Result<(), Refusal> {
+    check_header(table)?;
+    let wrong = table.rows.iter().position(|row| !row.in_range());
+    wrong.map_or(Ok(()), |place| refuse(5, place))
+}
+
+/// "8, the slope rules above broken": "a class's I is 0 exactly if it has no
+/// row, IA + IB ≤ 750,000"
+pub fn check_slopes(table: &Table) -> Result<(), Refusal> {
+    let wrong = |class| (table.idle(class) == 0) != table.of(class).next().is_none();
+    if wrong(Class::A) || wrong(Class::B) || table.idle_a + table.idle_b > MOST_IDLE_TOGETHER {
+        return refuse(8, 0);
     }
     Ok(())
 }
@@ -271,8 +334,8 @@ pub fn check_ranges(table: &Table) -> Result<(), Refusal> {
 pub struct Accepted {
     pub a: Figures,
     pub b: Figures,
-    /// How long a frame of each row is in the port at most, 0 in each place
-    /// behind the last row.
+    /// How long a frame of each row is in the port at most, 0 at each number
+    /// that is not in use.
     pub residences: [u64; MOST_ROWS],
     /// How many frames each row may have in the port, in the same way.
     pub most: [u64; MOST_ROWS],
@@ -289,28 +352,30 @@ impl Accepted {
 
 /// Opening a table.
 pub fn open(table: &Table) -> Result<(), Refusal> {
-    accept(table).map(|_| ())
+    opening(table).map(|_| ())
 }
 
 /// "When bounds are asked for, ... the answer holds 32 bounds, 0 in each place
 /// behind the last row." It is refused as opening is.
 pub fn bounds(table: &Table) -> Result<[u64; MOST_ROWS], Refusal> {
-    accept(table).map(|accepted| accepted.bounds())
+    opening(table).map(|accepted| accepted.bounds())
 }
 
 /// The checks of "Opening a table (also asking for bounds)".
-pub fn accept(table: &Table) -> Result<Accepted, Refusal> {
+fn opening(table: &Table) -> Result<Accepted, Refusal> {
     check_ranges(table)?;
+    accept(table)
+}
+
+/// "A table is accepted when ...": the same checks, but an empty number passes.
+pub fn accept(table: &Table) -> Result<Accepted, Refusal> {
+    check_header(table)?;
+    if let Some((place, _)) = table.in_use().find(|(_, row)| !row.in_range()) {
+        return refuse(5, place);
+    }
+    check_slopes(table)?;
     let a = table.figures(Class::A);
     let b = table.figures(Class::B);
-    // "8, the slope rules above broken": "a class's I is 0 exactly if it has
-    // no row, IA + IB ≤ 750,000"
-    if (a.idle == 0) != (a.rows == 0)
-        || (b.idle == 0) != (b.rows == 0)
-        || a.idle + b.idle > MOST_IDLE_TOGETHER
-    {
-        return refuse(8, 0);
-    }
     // "9, shares above I, place 0 for A, 1 for B."
     if a.shares > a.idle {
         return refuse(9, 0);
@@ -323,7 +388,7 @@ pub fn accept(table: &Table) -> Result<Accepted, Refusal> {
     let mut residences = [0; MOST_ROWS];
     let mut most = [0; MOST_ROWS];
     let mut in_class = [0, 0];
-    for (place, row) in table.rows.iter().enumerate() {
+    for (place, row) in table.in_use() {
         let (class, number) = match row.class {
             Class::A => (&a, 0),
             Class::B => (&b, 1),

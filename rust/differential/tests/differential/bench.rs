@@ -8,7 +8,7 @@ use differential::expected::{self, call_of, Outcome};
 use differential::guarded::Guarded;
 use differential::readable::left_of;
 use ithumeco::{list_bytes, words, Answer, BOUNDS_SIZE, CALL_SIZE};
-use simulator::file_of;
+use simulator::{file_of, Advance, Call, Refusal};
 
 use crate::kinds::{Kinds, Step, Way};
 use crate::tally::Counts;
@@ -18,8 +18,6 @@ type FileCall = fn(&[u8], &mut [u8]) -> Outcome;
 
 /// What a list showed that the simulator and the library have played.
 pub struct Played {
-    /// The table's bounds by the library.
-    pub bounds: Vec<u64>,
     /// The rows' frames that were reported ended.
     pub reported: Vec<Reported>,
     /// The most frames that each row, and each class, had in the port.
@@ -32,6 +30,8 @@ pub struct Bench {
     random: Random,
     pub cases: u64,
     pub numbers: Counts,
+    /// The joins and the leaves that were taken.
+    pub patches: [u64; 2],
     pub kinds: Kinds,
 }
 
@@ -42,6 +42,7 @@ impl Bench {
             random: Random::new(0),
             cases: 0,
             numbers: [0; 256],
+            patches: [0; 2],
             kinds: Kinds::default(),
         }
     }
@@ -65,6 +66,18 @@ impl Bench {
     /// Counts a number that the product has said, 0 where it did not refuse.
     pub fn saw(&mut self, number: usize) {
         self.numbers[number] += 1;
+    }
+
+    /// Counts the number that a call was answered with, and a join or a leave that
+    /// was taken.
+    fn saw_answer(&mut self, call: Call, said: Result<Advance, Refusal>) {
+        self.saw(said.map_or_else(|refusal| refusal.number.into(), |_| 0));
+        let taken = u64::from(said.is_ok());
+        match call {
+            Call::Join(..) => self.patches[0] += taken,
+            Call::Leave(_) => self.patches[1] += taken,
+            _ => (),
+        }
     }
 
     fn count(&mut self, outcome: Outcome) {
@@ -116,7 +129,7 @@ impl Bench {
     /// the answers need. The library's answers are held to the simulator's, and
     /// to demand 3 by the library's bounds.
     pub fn replay_played(&mut self, driver: &Driver, more: usize) -> Played {
-        let table = &driver.port.table;
+        let table = &driver.opened;
         let file = file_of(table);
         let calls = list_bytes(&driver.calls);
         let answers = driver.answers.iter().copied().map(Answer::from);
@@ -129,15 +142,13 @@ impl Bench {
 
         let bounds = bounds_of(&file);
         let mut watch = Watch::new(table, &bounds);
-        let said = Answer::list(&answers.get()[..written]);
-        let said = said.inspect(|answer| self.saw(answer.number as usize));
-        let steps = driver.calls.iter().copied().zip(said.map(Answer::said));
-        let seen = watch.see_all(steps);
+        let said = Answer::list(&answers.get()[..written]).map(Answer::said);
+        let steps = driver.calls.iter().copied().zip(said);
+        let seen = watch.see_all(steps.inspect(|&(call, said)| self.saw_answer(call, said)));
         assert!(seen.is_ok(), "{seen:?}, file {file:02X?}");
         let (reported, most) = (watch.reported, watch.most);
         let most_in_class = watch.most_in_class;
         Played {
-            bounds,
             reported,
             most,
             most_in_class,
@@ -192,13 +203,13 @@ impl Bench {
         record.copy_from_slice(saved.get());
         outcome.ok()?;
         let answer = Answer::list(out.get()).next()?;
-        self.saw(answer.number as usize);
         let step = Step {
             ahead,
             call: call_of(call)?,
             said: answer.said(),
             behind: left_of(record),
         };
+        self.saw_answer(step.call, step.said);
         self.kinds.see(Way::OnBytes, step);
         Some(answer)
     }

@@ -7,15 +7,16 @@ use cases::driver::Driver;
 use cases::hunt::Hunt;
 use cases::ports::{change, full, full_reversed, made_up};
 use cases::random::Random;
-use cases::traffic::{any_call, dense_calls};
+use cases::traffic::{any_call, TRAFFIC};
 use cases::{crowds, tables};
-use differential::readable::{left_of, port_of};
-use ithumeco::{call_bytes, Answer, Record, ANSWER_SIZE};
+use differential::readable::left_of;
+use ithumeco::{call_bytes, Record, ANSWER_SIZE};
 use simulator::port::MOST_ADVANCE;
 use simulator::table::{accept, GAP, MOST_IN_CLASS};
 use simulator::{broken, Call, Class, Frame, Mark, Port, Table, Wire};
 
 use crate::bench::Bench;
+use crate::held::Held;
 
 /// The longest period of a random table.
 const LONGEST: u64 = 200_000;
@@ -31,6 +32,10 @@ pub fn run(bench: &mut Bench) {
     for _ in 0..bench.times(60) {
         let table = tables::crowded(&mut random, LONGEST);
         led_to(bench, &mut random, &mut led, &table);
+        let table = match random.below(2) {
+            0 => tables::scattered(&mut random, table),
+            _ => table,
+        };
         records(bench, &mut random, &table);
     }
     full_queues(bench);
@@ -53,14 +58,19 @@ impl Led {
     }
 }
 
-/// Lists in which rows have as many frames in the port as can be.
+/// Lists in which rows have as many frames in the port as can be, at times with
+/// rows that join while frames wait.
 fn led_to(bench: &mut Bench, random: &mut Random, led: &mut Led, table: &Table) {
     let mut most = vec![0; table.rows.len()];
-    for hunt in Hunt::all(table) {
+    let mut hunts = Hunt::all(table);
+    if random.one_in(8) {
+        hunts.extend(Hunt::all_with_joins(table));
+    }
+    for hunt in hunts {
         let mut driver = Driver::new(table.clone());
         hunt.run(&mut driver);
         if random.one_in(4) {
-            dense_calls(random, &mut driver, 300);
+            random.pick(&TRAFFIC)(random, &mut driver, 300);
         }
         let played = bench.replay_played(&driver, 0);
         for (most, count) in most.iter_mut().zip(played.most) {
@@ -214,15 +224,13 @@ fn full_queues(bench: &mut Bench) {
         full_reversed(crowds::two_of_each()),
     ] {
         assert!(port.queue_a.len() as u64 == MOST_IN_CLASS);
-        let mut port = port;
-        let mut record = Record::from(&port).bytes();
+        let rows = port.table.rows.len() as u64;
+        let record = Record::from(&port).bytes().to_vec();
+        let mut held = Held { record, port };
         for _ in 0..200 {
-            let rows = port.table.rows.len() as u64;
             let offers = (0..rows).map(|row| Call::Offer(row, 0));
             for call in offers.chain([Call::Advance(MOST_ADVANCE)]) {
-                let said = bench.call(&mut record, &call_bytes(call), ANSWER_SIZE);
-                assert_eq!(said, Some(Answer::from(port.make(call))));
-                assert!(port_of(&Record::from_bytes(&record)) == Some(port.clone()));
+                let _ = held.make(bench, call, ANSWER_SIZE);
             }
         }
     }

@@ -8,7 +8,7 @@ use cases::driver::Driver;
 use cases::ports;
 use cases::random::Random;
 use cases::tables;
-use cases::traffic::any_call;
+use cases::traffic::{any_call, any_patch};
 use differential::readable::{left_of, port_of};
 use ithumeco::{call_bytes, put_words, words, Record, ANSWER_SIZE, RECORD_SIZE, WORD_SIZE};
 use simulator::port::{CLAUSES, LAST_CLOCK};
@@ -17,6 +17,7 @@ use simulator::{broken, Call, Class, Mark, Pace, Port, Row, Table, Wire};
 
 use crate::bench::Bench;
 use crate::damages::DAMAGES;
+use crate::held::over_junk;
 
 /// How much time passes on a port before its record is damaged.
 const AGE: u64 = 300_000;
@@ -24,7 +25,7 @@ const AGE: u64 = 300_000;
 pub fn run(bench: &mut Bench) {
     let mut random = Random::new(5);
     let mut seen = BTreeSet::new();
-    for _ in 0..bench.times(4) {
+    for _ in 0..bench.times(3) {
         for port in sound_ports(&mut random) {
             assert_eq!(broken(&port), None);
             clauses(bench, &mut random, &port, &mut seen);
@@ -34,7 +35,7 @@ pub fn run(bench: &mut Bench) {
             junk(bench, &mut random, &port);
         }
     }
-    for _ in 0..bench.times(7000) {
+    for _ in 0..bench.times(5500) {
         changed(bench, &mut random, &mut seen);
     }
     for clause in CLAUSES {
@@ -43,28 +44,40 @@ pub fn run(bench: &mut Bench) {
 }
 
 /// Ports of one table: busy with a row's frame on the wire, busy with a
-/// best-effort frame on the wire, and idle; and one with several frames of a
-/// row in each queue.
-fn sound_ports(random: &mut Random) -> [Port; 4] {
-    let idle = idle_port(random);
-    let mut by_row = offered(idle.clone());
-    by_row.advance(1).expect("a sound port");
+/// best-effort frame on the wire, and idle; two of these of a table with empty
+/// numbers; and one with several frames of a row in each queue.
+fn sound_ports(random: &mut Random) -> [Port; 6] {
+    let idle = idle_port(random, |_, table| table);
+    let with_empty = idle_port(random, tables::scattered);
+    let by_row = |idle: &Port| {
+        let mut port = offered(idle.clone());
+        port.advance(1).expect("a sound port");
+        port
+    };
     let mut by_best = idle.clone();
     by_best.offer_best(0).expect("a sound port");
     by_best.advance(1).expect("a sound port");
-    [by_row, offered(by_best), idle, crowded_port(random)]
+    [
+        by_row(&idle),
+        offered(by_best),
+        idle,
+        by_row(&with_empty),
+        with_empty,
+        crowded_port(random),
+    ]
 }
 
 /// Whether a table has some rows of each class and of each pace, and some
 /// places not in use.
 fn is_mixed(table: &Table) -> bool {
-    let of = |class| table.rows.iter().filter(|row| row.class == class).count();
+    let rows: Vec<&Row> = table.in_use().map(|(_, row)| row).collect();
+    let of = |class| rows.iter().filter(|row| row.class == class).count();
     let is_rated = |row: &Row| matches!(row.pace, Pace::Rated { .. });
-    let rated = table.rows.iter().filter(|row| is_rated(row)).count();
+    let rated = rows.iter().filter(|row| is_rated(row)).count();
     of(Class::A) >= 3
         && of(Class::B) >= 3
         && table.rows.len() <= 30
-        && (1..table.rows.len()).contains(&rated)
+        && (1..rows.len()).contains(&rated)
 }
 
 /// A port with several frames of a row in the queue of A and in that of B.
@@ -83,15 +96,17 @@ fn crowded_port(random: &mut Random) -> Port {
 }
 
 /// A port with some rows of each class and of each pace, and some places not
-/// in use. Each row has been offered to and all frames have ended.
-fn idle_port(random: &mut Random) -> Port {
+/// in use; its table is changed first. Each row has been offered to and all
+/// frames have ended.
+fn idle_port(random: &mut Random, change: fn(&mut Random, Table) -> Table) -> Port {
     loop {
         let table = tables::within(random, AGE);
+        let table = change(random, table);
         if !is_mixed(&table) {
             continue;
         }
         let mut driver = Driver::new(table);
-        for row in 0..driver.port.table.rows.len() {
+        for row in driver.numbers() {
             driver.offer(row);
         }
         while driver.port.clock < AGE {
@@ -109,11 +124,11 @@ fn offered(mut port: Port) -> Port {
         port.offer_best(payload).expect("a sound port");
     }
     for class in [Class::A, Class::B] {
-        let rows = port.table.rows.clone();
-        let of_class = (0..rows.len()).filter(|&row| rows[row].class == class);
-        for row in of_class.skip(1) {
-            let payload = rows[row].payload;
-            port.offer(row as u64, payload).expect("a sound port");
+        let table = port.table.clone();
+        let of_class = table.in_use().filter(|(_, row)| row.class == class);
+        for (number, row) in of_class.skip(1) {
+            let offer = port.offer(number as u64, row.payload);
+            offer.expect("a sound port");
         }
     }
     port
@@ -125,13 +140,16 @@ fn call(bench: &mut Bench, record: &[u8], call: Call) {
 }
 
 /// Makes each kind of call on a record's bytes.
-fn every_call(bench: &mut Bench, port: &Port, record: &[u8]) {
+fn every_call(bench: &mut Bench, random: &mut Random, port: &Port, record: &[u8]) {
     for row in 0..port.table.rows.len() as u64 {
         call(bench, record, Call::Offer(row, 0));
     }
     call(bench, record, Call::OfferBest(0));
     for n in [0, 1, 5000] {
         call(bench, record, Call::Advance(n));
+    }
+    for _ in 0..5 {
+        call(bench, record, any_patch(random, &port.table));
     }
 }
 
@@ -150,7 +168,7 @@ fn clauses(bench: &mut Bench, random: &mut Random, port: &Port, seen: &mut BTree
         .collect();
     let sound = sound.bytes();
     for (place, one) in damaged.iter().enumerate() {
-        every_call(bench, port, one);
+        every_call(bench, random, port, one);
         for other in &damaged[place + 1..] {
             let pair = with_changes(one, &sound, other);
             call(bench, &pair, any_call(random, &port.table, left_of(&pair)));
@@ -274,13 +292,7 @@ fn lengths(bench: &mut Bench, port: &Port) {
 /// Records of a port that a list has led to, or that is made up, with a few of
 /// its parts changed.
 fn changed(bench: &mut Bench, random: &mut Random, seen: &mut BTreeSet<&str>) {
-    let sound = match random.below(2) {
-        0 => ports::reached(random),
-        _ => {
-            let table = tables::lively(random);
-            ports::made_up(random, table)
-        }
-    };
+    let sound = ports::sound(random);
     for _ in 0..40 {
         let mut port = sound.clone();
         for _ in 0..random.between(1, 3) {
@@ -298,15 +310,13 @@ fn changed(bench: &mut Bench, random: &mut Random, seen: &mut BTreeSet<&str>) {
 /// Junk in the words that belong to no part.
 fn junk(bench: &mut Bench, random: &mut Random, port: &Port) {
     for _ in 0..20 {
-        let mut record = Record::from_bytes(&junk_bytes(random));
         // A row that was never offered to.
         let mut port = port.clone();
         if let Some(never) = without_frames(&port) {
             port.last[never] = None;
         }
-        record.store(&port);
-        let record = record.bytes();
-        every_call(bench, &port, &record);
+        let record = over_junk(random, &port);
+        every_call(bench, random, &port, &record);
         let mut kept = record;
         for _ in 0..10 {
             let made = any_call(random, &port.table, left_of(&kept));
@@ -323,15 +333,6 @@ fn without_frames(port: &Port) -> Option<usize> {
         let sent = matches!(port.wire, Wire::Sending(frame, _) if frame.mark == mark);
         sent || waiting.any(|frame| frame.mark == mark)
     };
-    (0..port.table.rows.len()).find(|&row| !has(row))
-}
-
-/// Random bytes, at times such as fields can hold.
-fn junk_bytes(random: &mut Random) -> [u8; RECORD_SIZE] {
-    let shift = random.pick(&[0, 32, 48, 63]);
-    let mut bytes = [0; RECORD_SIZE];
-    for at in (0..RECORD_SIZE).step_by(WORD_SIZE) {
-        put(&mut bytes, at, random.word() >> shift);
-    }
-    bytes
+    let mut rows = port.table.in_use().map(|(row, _)| row);
+    rows.find(|&row| !has(row))
 }

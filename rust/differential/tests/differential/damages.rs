@@ -1,9 +1,11 @@
-//! Changes to a sound record by the clauses of document 01's "broken": changes
-//! that make a clause hold, and changes up to its edge that do not.
+//! Changes to a sound record by the clauses of document 01's "broken", and of the
+//! requests that followed: changes that make a clause hold, and changes up to its
+//! edge that do not.
 
+use differential::readable::port_of;
 use ithumeco::{FrameWords, LastWords, QueueWords, Record, RowWords, WireWords};
 use simulator::port::{BEST_EFFORT, LAST_CLOCK};
-use simulator::table::{Accepted, Figures};
+use simulator::table::{accept, Accepted, Figures, GAP};
 
 pub type Damage = fn(&mut Record, &Accepted);
 
@@ -23,8 +25,8 @@ pub const DAMAGES: &[Damage] = &[
     |record, _| by_period(record).pace = 83,
     |record, _| by_period(record).pace += 1,
     |record, _| by_period(record).pace += 1 << 32,
-    |record, plan| record.rows[1].deadline = plan.bounds()[1] - 1,
-    |record, plan| record.rows[1].deadline = plan.bounds()[1],
+    |record, plan| record.rows[idle_row(record)].deadline = plan.bounds()[idle_row(record)] - 1,
+    |record, plan| record.rows[idle_row(record)].deadline = plan.bounds()[idle_row(record)],
     // a rate and its samples: "(1,000 to 200,000 Hz)", "(1 to 255)"
     |record, _| by_rate(record).pace = 0,
     |record, _| by_rate(record).pace = 999,
@@ -51,6 +53,69 @@ pub const DAMAGES: &[Damage] = &[
     |record, _| by_period(record).samples = 1,
     |record, _| by_period(record).samples = 256,
     |record, _| by_period(record).samples = u64::MAX,
+    // C-15: "A record with other bounds ... is broken."
+    |record, _| record.bounds[idle_row(record)] += 1,
+    |record, _| record.bounds[idle_row(record)] -= 1,
+    |record, _| record.bounds[idle_row(record)] += 1 << 32,
+    |record, _| record.bounds[idle_row(record)] = 0,
+    |record, plan| record.bounds[idle_row(record)] = plan.residences[idle_row(record)],
+    |record, _| record.bounds[waiting_row(record)] += 1,
+    |record, _| record.bounds[top(record)] -= 1,
+    |record, _| record.bounds[top(record)] = u64::MAX,
+    |record, _| record.bounds.fill(0),
+    |record, _| at_empty(record, |record, n| record.bounds[n] = 1),
+    |record, _| at_empty(record, |record, n| record.bounds[n] = GAP),
+    |record, _| at_empty(record, |record, n| record.bounds[n] = GAP.wrapping_neg()),
+    |record, _| at_empty(record, |record, n| record.bounds[n] = u64::MAX),
+    // "or another row count": with an empty number at the top, or without the row
+    // that stands there
+    |record, _| record.count += 1,
+    |record, _| record.count += 2,
+    |record, _| record.count = 32,
+    |record, _| {
+        record.bounds[record.count as usize] = 1;
+        record.count += 1;
+    },
+    |record, _| record.count -= 1,
+    |record, _| afresh(record, |record| record.count -= 1),
+    // an emptied number: with the bounds worked out afresh it is sound where it has
+    // no frame, is not the highest and not alone in its class
+    |record, _| empty(record, idle_row(record)),
+    |record, _| {
+        record.bounds[idle_row(record)] = 0;
+        empty(record, idle_row(record));
+    },
+    |record, _| afresh(record, |record| empty(record, idle_row(record))),
+    |record, _| afresh(record, |record| empty(record, waiting_row(record))),
+    |record, _| afresh(record, |record| empty(record, top(record))),
+    |record, _| {
+        afresh(record, |record| {
+            empty(record, top(record));
+            record.count = top(record) as u64 + 1;
+        })
+    },
+    |record, _| record.rows.fill(RowWords::default()),
+    // an empty number is zeros, but for its samples
+    |record, _| at_empty(record, |record, n| record.rows[n].class = 1),
+    |record, _| at_empty(record, |record, n| record.rows[n].payload = 1),
+    |record, _| at_empty(record, |record, n| record.rows[n].deadline = 1),
+    |record, _| at_empty(record, |record, n| record.rows[n].rated = 1),
+    |record, _| at_empty(record, |record, n| record.rows[n].pace = 1),
+    |record, _| at_empty(record, |record, n| record.rows[n].pace = 1 << 32),
+    |record, _| at_empty(record, |record, n| record.rows[n].samples = 1),
+    |record, _| at_empty(record, |record, n| record.rows[n].samples = u64::MAX),
+    // its mark and instant are no part
+    |record, _| at_empty(record, |record, n| record.last[n] = at(0)),
+    |record, _| at_empty(record, |record, n| record.last[n] = at(u64::MAX)),
+    |record, _| at_empty(record, |record, n| record.last[n].known = 2),
+    |record, _| at_empty(record, |record, n| record.last[n].known = u64::MAX),
+    // and neither is anything behind the row count
+    |record, _| record.rows[record.count as usize] = record.rows[idle_row(record)],
+    |record, _| behind(record, |record, n| record.rows[n].class = 2),
+    |record, _| behind(record, |record, n| record.rows[n].payload = u64::MAX),
+    |record, _| behind(record, |record, n| record.last[n].known = u64::MAX),
+    |record, _| behind(record, |record, n| record.last[n] = at(u64::MAX)),
+    |record, _| behind(record, |record, n| record.bounds[n] = u64::MAX),
     // "its clock or a credit is out of range (−S × L to I × H)"
     |record, _| record.clock = LAST_CLOCK,
     |record, _| record.clock = LAST_CLOCK + 1,
@@ -82,6 +147,18 @@ pub const DAMAGES: &[Damage] = &[
     |record, _| send(record, BEST_EFFORT),
     |record, _| send(record, 33),
     |record, _| send(record, record.count),
+    |record, _| at_empty(record, |record, n| send(record, n as u64)),
+    |record, _| {
+        at_empty(record, |record, n| {
+            record.last[n] = at(record.clock);
+            send(record, n as u64);
+        })
+    },
+    |record, _| {
+        at_empty(record, |record, n| {
+            record.queue_a.frames[0].source = n as u64
+        })
+    },
     // "is in the wrong queue"
     |record, _| std::mem::swap(&mut record.queue_a, &mut record.queue_b),
     |record, _| move_from_a_to_b(record),
@@ -173,8 +250,68 @@ fn by_rate(record: &mut Record) -> &mut RowWords {
 }
 
 fn paced(record: &mut Record, rated: u64) -> &mut RowWords {
-    let row = record.rows.iter_mut().find(|row| row.rated == rated);
+    let mut rows = record.rows.iter_mut().filter(|row| !is_empty(row));
+    let row = rows.find(|row| row.rated == rated);
     row.expect("a row of each pace")
+}
+
+/// Whether a row's words are those of an empty number.
+fn is_empty(row: &RowWords) -> bool {
+    RowWords { samples: 0, ..*row } == RowWords::default()
+}
+
+/// The numbers below the row count.
+fn numbers(record: &Record) -> impl DoubleEndedIterator<Item = usize> {
+    0..record.count as usize
+}
+
+/// The first row of a class.
+fn first_of(record: &Record, class: u64) -> usize {
+    let rows = record.rows.iter();
+    let first = rows
+        .enumerate()
+        .find(|(_, row)| row.class == class && !is_empty(row));
+    first.expect("a row of each class").0
+}
+
+/// The first row of class A. Where rows are offered to, it is not.
+fn idle_row(record: &Record) -> usize {
+    first_of(record, 0)
+}
+
+/// The highest number in use.
+fn top(record: &Record) -> usize {
+    let mut numbers = numbers(record);
+    let highest = numbers.rfind(|&number| !is_empty(&record.rows[number]));
+    highest.expect("a number in use")
+}
+
+/// A change at the first empty number, if there is one.
+fn at_empty(record: &mut Record, change: impl Fn(&mut Record, usize)) {
+    let first = numbers(record).find(|&number| is_empty(&record.rows[number]));
+    if let Some(number) = first {
+        change(record, number);
+    }
+}
+
+/// A change at each number behind the row count.
+fn behind(record: &mut Record, change: impl Fn(&mut Record, usize)) {
+    for number in record.count as usize..record.rows.len() {
+        change(record, number);
+    }
+}
+
+fn empty(record: &mut Record, number: usize) {
+    record.rows[number] = RowWords::default();
+}
+
+/// A change, and the bounds worked out afresh if the table is then accepted.
+fn afresh(record: &mut Record, change: impl Fn(&mut Record)) {
+    change(record);
+    let plan = port_of(record).and_then(|port| accept(&port.table).ok());
+    if let Some(plan) = plan {
+        record.bounds = plan.bounds();
+    }
 }
 
 /// A rate of 48,000 Hz with a period that is no shorter than the row's.
@@ -335,9 +472,13 @@ fn at(taken: u64) -> LastWords {
     LastWords { known: 1, taken }
 }
 
-/// The row whose frame is first in the queue of B.
+/// The row whose frame is first in the queue of B, or where none waits the first
+/// of B.
 fn waiting_row(record: &Record) -> usize {
-    record.queue_b.frames[0].source as usize
+    match record.queue_b.count {
+        0 => first_of(record, 1),
+        _ => record.queue_b.frames[0].source as usize,
+    }
 }
 
 /// Another age for that frame and its row.
@@ -374,10 +515,4 @@ fn send_aged(record: &mut Record, plan: &Accepted, younger: u64, left: u64) {
         },
         left,
     };
-}
-
-/// The first row of class A.
-fn idle_row(record: &Record) -> usize {
-    let in_a = record.rows.iter().position(|row| row.class == 0);
-    in_a.expect("a row of class A")
 }

@@ -4,6 +4,7 @@
 
 use cases::driver::Driver;
 use cases::random::Random;
+use cases::tables::row;
 use cases::{crowds, rates, specimen, tables};
 use differential::readable::port_of;
 use ithumeco::{call_bytes, Answer, Record, ANSWER_SIZE, RECORD_SIZE};
@@ -16,6 +17,9 @@ use crate::bench::Bench;
 /// The most bytes left.
 const MOST_LEFT: u64 = GAP + 2;
 
+/// The most advances ahead of a leave.
+const SETTLING: usize = 10;
+
 pub fn run(bench: &mut Bench) {
     let mut random = Random::new(10);
     let fixed = [specimen::table(), rates::table()];
@@ -23,7 +27,11 @@ pub fn run(bench: &mut Bench) {
         on_table(bench, &table);
     }
     for _ in 0..bench.times(20) {
-        on_table(bench, &tables::within(&mut random, 200_000));
+        let table = tables::within(&mut random, 200_000);
+        on_table(bench, &table);
+        if random.one_in(4) {
+            aged(bench, &tables::scattered(&mut random, table));
+        }
     }
 }
 
@@ -48,8 +56,8 @@ fn offer(driver: &mut Driver, source: Source) {
 /// The first and the last row of each class, and best effort.
 fn sources(table: &Table) -> Vec<Source> {
     let of = |class| {
-        let rows = 0..table.rows.len();
-        rows.filter(move |&row| table.rows[row].class == class)
+        let rows = table.in_use().filter(move |(_, row)| row.class == class);
+        rows.map(|(number, _)| number)
     };
     let of_a = [of(Class::A).next(), of(Class::A).next_back()];
     let of_b = [of(Class::B).next(), of(Class::B).next_back()];
@@ -86,9 +94,10 @@ pub fn lists(table: &Table) -> Vec<Driver> {
     lists
 }
 
-/// Calls on a port with so many bytes left: advances about the report, the end
-/// and the report of the smallest frame behind it, and offers.
-fn next_calls(left: u64) -> impl Iterator<Item = Call> {
+/// Calls on a list's port: advances about the report, the end and the report of
+/// the smallest frame behind it, offers, the join of a small row and a leave.
+fn next_calls(driver: &Driver) -> impl Iterator<Item = Call> {
+    let (left, rows) = (driver.left(), &driver.port.table.rows);
     let report = left.saturating_sub(GAP);
     let edges = [report, left, left + LEAST_SIZE - GAP];
     let about = edges
@@ -96,21 +105,23 @@ fn next_calls(left: u64) -> impl Iterator<Item = Call> {
         .flat_map(|n| [n.saturating_sub(1), n, n + 1]);
     let counts = about.chain([0, 5, 700, MOST_ADVANCE]);
     let offers = [Call::Offer(0, 0), Call::OfferBest(0)];
-    counts.map(Call::Advance).chain(offers)
+    let small = row(rows[0].class, 0, 1_000_000_000, 1_000_000_000);
+    let patches = [Call::Join(31, small), Call::Leave(0)];
+    counts.map(Call::Advance).chain(offers).chain(patches)
 }
 
 /// A list made one by one on a record's bytes; from there each next call, and
 /// advances behind it.
 fn go_on_with_bytes(bench: &mut Bench, driver: &Driver) {
     let mut record = [0; RECORD_SIZE];
-    let file = file_of(&driver.port.table);
+    let file = file_of(&driver.opened);
     assert_eq!(ithumeco::open(&file, &mut record), Ok(()));
     for (&call, &answer) in driver.calls.iter().zip(&driver.answers) {
         let said = bench.call(&mut record, &call_bytes(call), ANSWER_SIZE);
         assert_eq!(said, Some(Answer::from(answer)));
     }
     assert!(port_of(&Record::from_bytes(&record)).as_ref() == Some(&driver.port));
-    for call in next_calls(driver.left()) {
+    for call in next_calls(driver) {
         let mut saved = record;
         bench.call(&mut saved, &call_bytes(call), ANSWER_SIZE);
         for n in [1, GAP, 2000] {
@@ -119,12 +130,17 @@ fn go_on_with_bytes(bench: &mut Bench, driver: &Driver) {
     }
 }
 
-/// The list with each next call, played until no frame of a row is left.
+/// The list with each next call, played until no frame of a row is left. A row
+/// that has joined then leaves, if the credits are soon back.
 fn go_on_in_lists(bench: &mut Bench, driver: &Driver) {
-    for call in next_calls(driver.left()) {
+    for call in next_calls(driver) {
         let mut driver = driver.clone();
         driver.make(call);
         driver.drain();
+        if let Call::Join(number, _) = call {
+            driver.settle(SETTLING);
+            driver.make(Call::Leave(number));
+        }
         bench.replay_played(&driver, 0);
     }
 }

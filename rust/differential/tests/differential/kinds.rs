@@ -33,7 +33,7 @@ const WAYS: [(Way, &str); 3] = [
 /// A kind's name, and what it is.
 type Kind = (&'static str, fn(&Step) -> bool);
 
-const KINDS: [Kind; 20] = [
+const KINDS: [Kind; 22] = [
     ("stops a byte-time before a report", |step| {
         step.passes() && step.behind == GAP + 1
     }),
@@ -78,6 +78,12 @@ const KINDS: [Kind; 20] = [
     ("refused in a gap", |step| {
         step.in_gap() && step.said.is_err() && !step.broken()
     }),
+    ("a join taken in a gap", |step| {
+        step.in_gap() && step.said.is_ok() && matches!(step.call, Call::Join(..))
+    }),
+    ("a leave refused in a gap", |step| {
+        step.in_gap() && step.said == refuse(21, 0)
+    }),
     ("a broken record with a frame in its gap", |step| {
         step.in_gap() && step.broken()
     }),
@@ -86,8 +92,10 @@ const KINDS: [Kind; 20] = [
     }),
 ];
 
-/// The last kinds, which no list meets.
+/// The last kinds, which no list meets, and those ahead of them, which no line
+/// does.
 const OF_RECORDS_ALONE: usize = 2;
+const OF_NO_LINE: usize = 2;
 
 impl Step {
     fn in_gap(&self) -> bool {
@@ -190,7 +198,8 @@ impl Kinds {
         for ((way, by), counts) in WAYS.iter().zip(self.0) {
             let can_meet = match way {
                 Way::OnBytes => KINDS.len(),
-                Way::InAList | Way::AsALine => KINDS.len() - OF_RECORDS_ALONE,
+                Way::InAList => KINDS.len() - OF_RECORDS_ALONE,
+                Way::AsALine => KINDS.len() - OF_RECORDS_ALONE - OF_NO_LINE,
             };
             let kinds = KINDS.iter().zip(counts).take(can_meet);
             let none = kinds.filter(|(_, count)| *count == 0);

@@ -38,15 +38,18 @@ pub fn run(bench: &mut Bench) {
             &call_bytes(Call::Advance(0)),
             ANSWER_SIZE,
         );
-        assert_eq!(said, Some(Answer::refused(18)));
+        assert_eq!(said, Some(Answer::refused(18, 0)));
     }
 }
 
-/// The specimen's port: fresh, with frames waiting and on the wire, and with one
-/// of them just reported; and a port with full class queues.
-fn ports() -> [Port; 4] {
+/// The specimen's port: fresh, with a row that has joined past empty numbers, with
+/// frames waiting and on the wire, and with one of them just reported; and a port
+/// with full class queues.
+fn ports() -> [Port; 5] {
     let fresh = Port::fresh(specimen::table());
-    let mut busy = fresh.clone();
+    let mut patched = fresh.clone();
+    patched.join(9, specimen::FOURTH).expect("a row that fits");
+    let mut busy = patched.clone();
     for row in 0..3 {
         busy.offer(row, 0).expect("a sound port");
     }
@@ -54,7 +57,8 @@ fn ports() -> [Port; 4] {
     busy.advance(1).expect("a sound port");
     let mut in_gap = busy.clone();
     in_gap.advance(MOST_ADVANCE).expect("a sound port");
-    [fresh, busy, in_gap, full(crowds::full_classes())]
+    let full = full(crowds::full_classes());
+    [fresh, patched, busy, in_gap, full]
 }
 
 /// Calls one by one on a port's record.

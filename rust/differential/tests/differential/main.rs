@@ -1,4 +1,5 @@
-//! Holds the static library and the programs to the simulator, group by group.
+//! Holds the static library and the programs to the simulator, group by group, as
+//! many at a time as there are processors.
 //!
 //! Seeds are fixed. `ITHUMECO_LONG=n` makes n times as many random cases.
 //! Names of groups as arguments run these groups alone.
@@ -9,18 +10,23 @@ mod damaged;
 mod damages;
 mod files;
 mod gaps;
+mod held;
 mod kinds;
 mod late;
 mod opening;
+mod patches;
 mod programs;
 mod promise;
 mod records;
 mod replay;
 mod tally;
+mod wrong;
 
 use std::env;
 use std::panic::{catch_unwind, AssertUnwindSafe};
 use std::process::ExitCode;
+use std::sync::Mutex;
+use std::thread;
 use std::time::Instant;
 
 use bench::Bench;
@@ -28,11 +34,12 @@ use tally::Tally;
 
 type Group = fn(&mut Bench);
 
-const GROUPS: [(&str, Group); 10] = [
+const GROUPS: [(&str, Group); 11] = [
     ("files", files::run),
     ("opening", opening::run),
     ("replay", replay::run),
     ("records", records::run),
+    ("patches", patches::run),
     ("damaged", damaged::run),
     ("late", late::run),
     ("crowds", crowds::run),
@@ -68,21 +75,60 @@ fn factor() -> Result<usize, String> {
     factor.ok_or_else(|| format!("ITHUMECO_LONG is no number above 0: {text}"))
 }
 
+/// What came of a group.
+struct Ran {
+    name: &'static str,
+    bench: Bench,
+    seconds: f64,
+    failed: bool,
+}
+
+impl Ran {
+    fn of(name: &'static str, group: Group, factor: usize) -> Ran {
+        let begun = Instant::now();
+        let mut bench = Bench::new(factor);
+        // A panic says what is wrong; the other groups run all the same.
+        let failed = catch_unwind(AssertUnwindSafe(|| group(&mut bench))).is_err();
+        let seconds = begun.elapsed().as_secs_f64();
+        Ran {
+            name,
+            bench,
+            seconds,
+            failed,
+        }
+    }
+}
+
+/// Runs the groups, the last ones first, since they take longest.
+fn run_all(groups: Vec<(&'static str, Group)>, factor: usize) -> Vec<Ran> {
+    let order: Vec<&str> = groups.iter().map(|(name, _)| *name).collect();
+    let left = Mutex::new(groups);
+    let ran = Mutex::new(Vec::new());
+    let next = || left.lock().expect("no panic in between").pop();
+    let work = || {
+        while let Some((name, group)) = next() {
+            let done = Ran::of(name, group, factor);
+            ran.lock().expect("no panic in between").push(done);
+        }
+    };
+    let workers = thread::available_parallelism().map_or(1, usize::from);
+    thread::scope(|scope| (0..workers).for_each(|_| drop(scope.spawn(work))));
+    let mut ran = ran.into_inner().expect("no panic in between");
+    ran.sort_by_key(|done| order.iter().position(|name| *name == done.name));
+    ran
+}
+
 /// Runs the groups and prints what they have seen.
 fn run() -> Result<(), String> {
     let (groups, factor) = (wanted()?, factor()?);
     let all = groups.len() == GROUPS.len();
     let mut tally = Tally::default();
     let mut failed = Vec::new();
-    for (name, group) in groups {
-        let begun = Instant::now();
-        let mut bench = Bench::new(factor);
-        // A panic says what is wrong; the other groups run all the same.
-        if catch_unwind(AssertUnwindSafe(|| group(&mut bench))).is_err() {
-            failed.push(format!("group {name}"));
+    for done in run_all(groups, factor) {
+        tally.add(done.name, &done.bench, done.seconds);
+        if done.failed {
+            failed.push(format!("group {}", done.name));
         }
-        let seconds = begun.elapsed().as_secs_f64();
-        tally.add(name, &bench, seconds);
     }
     tally.print();
     // A group that fails has not seen all that it would.

@@ -14,7 +14,7 @@ use cases::files::{any_file, damaged, noise};
 use cases::lines;
 use cases::random::Random;
 use cases::specimen::{self, FILE};
-use cases::traffic::{random_calls, TRAFFIC};
+use cases::traffic::{random_lines, LINES};
 use cases::{crowds, rates, tables};
 use simulator::file_of;
 
@@ -56,12 +56,12 @@ pub fn run(bench: &mut Bench) {
         programs.list(bench, &file, &text, random.one_in(4));
     }
     for mut driver in gaps::lists(&specimen::table()) {
-        random_calls(&mut random, &mut driver, 20);
+        random_lines(&mut random, &mut driver, 20);
         programs.played(bench, &driver, random.one_in(4));
     }
     for _ in 0..bench.times(200) {
         let mut driver = Driver::new(tables::lively(&mut random));
-        random.pick(&TRAFFIC)(&mut random, &mut driver, 200);
+        random.pick(&LINES)(&mut random, &mut driver, 200);
         programs.played(bench, &driver, random.one_in(4));
     }
     programs.without_table(bench);
@@ -104,7 +104,7 @@ impl Programs {
 
     /// A list that the simulator has played, a call a line.
     fn played(&self, bench: &mut Bench, driver: &Driver, by_bytes: bool) {
-        let file = file_of(&driver.port.table);
+        let file = file_of(&driver.opened);
         self.list(bench, &file, &text_of(driver), by_bytes);
         bench.kinds.see_list(Way::AsALine, driver);
     }
@@ -206,7 +206,7 @@ fn any_text(random: &mut Random, file: &[u8]) -> Vec<u8> {
     let table = simulator::opened(file).unwrap_or_else(|_| specimen::table());
     let mut driver = Driver::new(table);
     let count = random.below(120);
-    random.pick(&TRAFFIC)(random, &mut driver, count);
+    random.pick(&LINES)(random, &mut driver, count);
     let mut text = text_of(&driver);
     if !text.is_empty() && random.one_in(4) {
         let at = random.below(text.len());

@@ -1,10 +1,13 @@
 //! The promise: no frame of a row is older than its row's bound when it is
-//! reported ended.
+//! reported ended; where rows join, than the largest that its row has had since
+//! it was taken.
+
+use std::io::stdout;
 
 use cases::driver::Driver;
 use cases::hunt::Hunt;
 use cases::random::Random;
-use cases::traffic::dense_calls;
+use cases::traffic::{dense_calls, patched_calls};
 use cases::{crowds, rates, specimen, tables};
 use simulator::{Class, Table};
 
@@ -13,6 +16,8 @@ use crate::bench::{Bench, Played};
 /// The longest period of a table that is hunted on.
 const LONGEST: u64 = 200_000;
 
+type Traffic = fn(&mut Random, &mut Driver, usize);
+
 pub fn run(bench: &mut Bench) {
     let mut random = Random::new(8);
     let mut closest = Closest::default();
@@ -20,7 +25,7 @@ pub fn run(bench: &mut Bench) {
     for table in fixed.into_iter().chain(crowds::all()) {
         on_table(bench, &mut random, &mut closest, table);
     }
-    for _ in 0..bench.times(400) {
+    for _ in 0..bench.times(350) {
         for class in [Class::A, Class::B] {
             let table = tables::tight(&mut random, class);
             on_table(bench, &mut random, &mut closest, table);
@@ -28,7 +33,7 @@ pub fn run(bench: &mut Bench) {
         let table = tables::within(&mut random, LONGEST);
         on_table(bench, &mut random, &mut closest, table);
     }
-    for _ in 0..bench.times(200) {
+    for _ in 0..bench.times(175) {
         for class in [Class::A, Class::B] {
             let table = tables::tight_crowded(&mut random, class);
             on_table(bench, &mut random, &mut closest, table);
@@ -41,59 +46,79 @@ pub fn run(bench: &mut Bench) {
 }
 
 /// Hunts for each row's oldest frame, each time from a fresh port or, on some
-/// tables, one after the other in one list; then dense traffic.
+/// tables, one after the other in one list; then dense traffic. On some tables
+/// rows join while frames wait.
 fn on_table(bench: &mut Bench, random: &mut Random, closest: &mut Closest, table: Table) {
     let in_one_list = random.one_in(20);
+    let (hunts, traffic): (_, Traffic) = match random.below(8) {
+        0 => (Hunt::all_with_joins(&table), patched_calls),
+        _ => (Hunt::all(&table), dense_calls),
+    };
     let mut driver = Driver::new(table.clone());
-    for hunt in Hunt::all(&table) {
+    for hunt in hunts {
         hunt.run(&mut driver);
         if !in_one_list {
             closest.see(&table, &bench.replay_played(&driver, 0));
             driver = Driver::new(table.clone());
         }
     }
-    dense_calls(random, &mut driver, 1000);
+    traffic(random, &mut driver, 1000);
     driver.drain();
     closest.see(&table, &bench.replay_played(&driver, 0));
 }
 
-/// The ages that came closest to their bounds: in A, in B where there is no
+/// The ages that came closest to their limits: in A, in B where there is no
 /// row of A, and in B behind A; then the same of frames that were reported with
-/// another frame of their row in the port.
+/// another frame of their row in the port, and of frames whose row's bound rose
+/// while they were in it.
 #[derive(Default)]
 struct Closest {
-    ages: [(u64, u64); 6],
+    ages: [(u64, u64); 9],
     frames: u64,
     /// The frames that were reported with another of their row in the port.
     beside: u64,
+    /// The frames whose row's bound rose, and those of them that were older than it
+    /// was when they were taken.
+    raised: u64,
+    older: u64,
     /// The most frames of a row and of a class that were in the port at once.
     most: usize,
     most_in_class: usize,
 }
 
-const KINDS: [&str; 6] = [
-    "A",
-    "B alone",
-    "B behind A",
-    "A, beside another of its row",
-    "B alone, beside another of its row",
-    "B behind A, beside another of its row",
+/// Each of these with the hundredths of its limit that an age is to come to. With
+/// B alone the frame that is hunted for is offered behind the last join.
+const KINDS: [(&str, u64); 9] = [
+    ("A", 97),
+    ("B alone", 97),
+    ("B behind A", 97),
+    ("A, beside another of its row", 97),
+    ("B alone, beside another of its row", 97),
+    ("B behind A, beside another of its row", 97),
+    ("A, with a bound that rose", 97),
+    ("B alone, with a bound that rose", 80),
+    ("B behind A, with a bound that rose", 97),
 ];
 
 impl Closest {
     fn see(&mut self, table: &Table, played: &Played) {
         let some_a = table.rows.iter().any(|row| row.class == Class::A);
         for frame in &played.reported {
-            let kind = match table.rows[frame.row].class {
+            let kind = match frame.class {
                 Class::A => 0,
                 Class::B => 1 + usize::from(some_a),
             };
-            let (age, bound) = (frame.age, played.bounds[frame.row]);
+            let (age, limit) = (frame.age, frame.limit);
             self.frames += 1;
-            nearer(&mut self.ages[kind], age, bound);
+            nearer(&mut self.ages[kind], age, limit);
             if frame.together > 1 {
                 self.beside += 1;
-                nearer(&mut self.ages[kind + 3], age, bound);
+                nearer(&mut self.ages[kind + 3], age, limit);
+            }
+            if limit > frame.bound {
+                self.raised += 1;
+                self.older += u64::from(age > frame.bound);
+                nearer(&mut self.ages[kind + 6], age, limit);
             }
         }
         let most = played.most.iter().copied().max();
@@ -104,27 +129,31 @@ impl Closest {
     }
 
     fn print(&self) {
+        let _whole = stdout().lock();
         let (frames, beside) = (self.frames, self.beside);
-        println!("{frames} frames of rows, none older than its bound; {beside} beside another");
+        println!("{frames} frames of rows, none older than its limit; {beside} beside another");
+        let (raised, older) = (self.raised, self.older);
+        println!("{raised} with a bound that rose; {older} older than it was at first");
         let (most, most_in_class) = (self.most, self.most_in_class);
         println!("at most {most} frames of a row in the port, and {most_in_class} of a class");
-        for (kind, (age, bound)) in KINDS.iter().zip(self.ages) {
-            let ratio = age as f64 / bound as f64;
-            println!("closest in {kind}: {age} of {bound} byte-times, {ratio:.4}");
+        for ((kind, _), (age, limit)) in KINDS.iter().zip(self.ages) {
+            let ratio = age as f64 / limit as f64;
+            println!("closest in {kind}: {age} of {limit} byte-times, {ratio:.4}");
         }
     }
 
-    /// A hunt that comes nowhere near the bounds would show nothing.
+    /// A hunt that comes nowhere near the limits would show nothing.
     fn is_close(&self) {
-        for (age, bound) in self.ages {
-            assert!(age * 100 > bound * 97, "{age} is far from {bound}");
+        for ((kind, part), (age, limit)) in KINDS.iter().zip(self.ages) {
+            assert!(age * 100 > limit * part, "{kind}: {age} of {limit}");
         }
+        assert!(self.older > 0, "no frame is older than its first bound");
     }
 }
 
-/// Keeps the age that is nearer to its bound.
-fn nearer(closest: &mut (u64, u64), age: u64, bound: u64) {
-    if age * closest.1 >= closest.0 * bound {
-        *closest = (age, bound);
+/// Keeps the age that is nearer to its limit.
+fn nearer(closest: &mut (u64, u64), age: u64, limit: u64) {
+    if age * closest.1 >= closest.0 * limit {
+        *closest = (age, limit);
     }
 }

@@ -4,20 +4,23 @@ use cases::driver::Driver;
 use cases::random::Random;
 use cases::specimen;
 use cases::tables;
-use cases::traffic::{any_call, dense_calls, random_calls};
-use differential::readable::{left_of, port_of};
-use ithumeco::{call_bytes, Answer, Record, ANSWER_SIZE, CALL_SIZE, RECORD_SIZE};
+use cases::traffic::{any_call, TRAFFIC};
+use differential::readable::left_of;
+use ithumeco::{call_bytes, ANSWER_SIZE, CALL_SIZE, RECORD_SIZE};
 use simulator::{file_of, Call, Port, Table};
 
 use crate::bench::Bench;
+use crate::held::Held;
+use crate::wrong::{edge_joins, wrong_calls};
 
 pub fn run(bench: &mut Bench) {
     let mut random = Random::new(4);
     for _ in 0..bench.times(600) {
         let table = tables::lively(&mut random);
         let mut driver = Driver::new(table.clone());
-        random_calls(&mut random, &mut driver, 100);
-        dense_calls(&mut random, &mut driver, 200);
+        for traffic in TRAFFIC {
+            traffic(&mut random, &mut driver, 100);
+        }
         one_by_one(bench, &mut random, table, &driver.calls);
     }
     misfits(bench, &mut random);
@@ -31,18 +34,14 @@ fn opened(random: &mut Random, file: &[u8]) -> Vec<u8> {
     record
 }
 
-/// Makes the calls, and holds the record to a port that the simulator leads
-/// through the same calls.
+/// Makes the calls on the record that the library has opened.
 fn one_by_one(bench: &mut Bench, random: &mut Random, table: Table, calls: &[Call]) {
-    let mut record = opened(random, &file_of(&table));
-    let mut port = Port::fresh(table);
+    let record = opened(random, &file_of(&table));
+    let port = Port::fresh(table);
+    let mut held = Held { record, port };
     for call in calls {
         let room = ANSWER_SIZE + random.pick(&[0, 0, 1, 24]);
-        let said = bench.call(&mut record, &call_bytes(*call), room);
-        assert_eq!(said, Some(Answer::from(port.make(*call))));
-        let bytes = record.first_chunk().expect("a record");
-        let named = port_of(&Record::from_bytes(bytes));
-        assert!(named.as_ref() == Some(&port), "the port's record");
+        let _ = held.make(bench, *call, room);
     }
 }
 
@@ -58,12 +57,18 @@ fn misfits(bench: &mut Bench, random: &mut Random) {
         let call = any_call(random, &table, left_of(&record));
         bench.call(&mut record, &call_bytes(call), room);
     }
+    for call in wrong_calls() {
+        assert_eq!(bench.call(&mut record, &call, ANSWER_SIZE), None);
+    }
+    for call in edge_joins() {
+        assert!(bench.call(&mut record, &call, ANSWER_SIZE).is_some());
+    }
     for _ in 0..bench.times(20_000) {
         let mut call = call_bytes(any_call(random, &table, left_of(&record)));
         if random.one_in(2) {
             call[random.below(CALL_SIZE)] ^= 1 << random.below(8);
         }
-        let len = CALL_SIZE - random.pick(&[0, 0, 0, 1, 8, 24]);
+        let len = CALL_SIZE - random.pick(&[0, 0, 0, 1, 8, 40]);
         bench.call(&mut record, &call[..len], random.pick(&[0, 39, 40, 41, 60]));
     }
 }

@@ -6,14 +6,15 @@ use cases::random::Random;
 use cases::specimen::FILE;
 use cases::tables;
 use cases::traffic::TRAFFIC;
-use ithumeco::{list_bytes, put_words, CALL_SIZE};
+use ithumeco::{list_bytes, ANSWER_SIZE, CALL_SIZE};
 use simulator::Call;
 
 use crate::bench::Bench;
+use crate::wrong::{edge_joins, wrong_calls};
 
 pub fn run(bench: &mut Bench) {
     let mut random = Random::new(3);
-    for _ in 0..bench.times(2000) {
+    for _ in 0..bench.times(1500) {
         let count = random.below(600);
         played(bench, &mut random, count);
     }
@@ -33,7 +34,8 @@ fn played(bench: &mut Bench, random: &mut Random, count: usize) {
 /// Lists that do not fit: 101, 102, 103, and the file's refusals behind them.
 fn misfits(bench: &mut Bench, random: &mut Random) {
     let calls = list_bytes(&[0, 50, 100, 150, 200, 250, 300].map(Call::Advance));
-    let answers = 7 * 40;
+    let answers = 7 * ANSWER_SIZE;
+    let others = [wrong_calls(), edge_joins()].concat();
     bench.replay(&FILE, &[], 0);
     for len in 0..=calls.len() {
         bench.replay(&FILE, &calls[..len], answers);
@@ -42,9 +44,9 @@ fn misfits(bench: &mut Bench, random: &mut Random) {
         bench.replay(&FILE, &calls, room);
     }
     for place in 0..7 {
-        for wrong in wrong_calls() {
+        for other in &others {
             let mut calls = calls.clone();
-            calls[place * CALL_SIZE..][..CALL_SIZE].copy_from_slice(&wrong);
+            calls[place * CALL_SIZE..][..CALL_SIZE].copy_from_slice(other);
             bench.replay(&FILE, &calls, answers);
         }
     }
@@ -57,31 +59,12 @@ fn misfits(bench: &mut Bench, random: &mut Random) {
         let mut calls = calls.clone();
         for _ in 0..random.below(3) {
             let place = random.below(7);
-            let wrong = random.pick(&wrong_calls());
-            calls[place * CALL_SIZE..][..CALL_SIZE].copy_from_slice(&wrong);
+            let other = random.pick(&others);
+            calls[place * CALL_SIZE..][..CALL_SIZE].copy_from_slice(&other);
         }
         if random.one_in(2) {
             calls.truncate(random.below(calls.len() + 1));
         }
         bench.replay(&file, &calls, random.below(answers + 50));
     }
-}
-
-/// Calls that cannot be read.
-fn wrong_calls() -> [[u8; CALL_SIZE]; 8] {
-    [
-        [1, 0, 1],
-        [1, 42, u64::MAX],
-        [2, 0, 1],
-        [2, 7, 1 << 63],
-        [3, 0, 0],
-        [256, 0, 0],
-        [1 << 32, 0, 0],
-        [u64::MAX; 3],
-    ]
-    .map(|words| {
-        let mut bytes = [0; CALL_SIZE];
-        put_words(&words, &mut bytes);
-        bytes
-    })
 }

@@ -4,6 +4,7 @@ mod crowds;
 mod document;
 mod frames;
 mod gap;
+mod patches;
 mod random;
 mod rates;
 mod records;

@@ -33,6 +33,8 @@ fn after(change: impl Fn(&mut Port)) -> Option<&'static str> {
         assert_eq!(number(port.offer(0, 0).err()), Some(18));
         assert_eq!(number(port.offer_best(0).err()), Some(18));
         assert_eq!(number(port.advance(1).err()), Some(18));
+        assert_eq!(number(port.join(9, table().rows[0]).err()), Some(18));
+        assert_eq!(number(port.leave(0).err()), Some(18));
         assert_eq!(port, before);
     } else {
         assert!(port.advance(0).is_ok());

@@ -1,5 +1,6 @@
--- `advances::numbers::sender` meets its contract, by whether the frame names a row, and whether the row has a place.
+-- `advances::numbers::sender` meets its contract, by whether the frame names a row, whether the row has a place, and whether it is there.
 use Prim.Native.Nat.{ℕ, zero, suc, _+_, _-_, _≤_, _<_}
+use mathlib.Core.Bool.{true, false}
 use mathlib.Core.Path.{_≡_, refl, _∙_, ap}
 use native.Mathlib.Omega.{arith}
 use lib.ListN.{length, getD, take, replicate, length-take}
@@ -7,7 +8,7 @@ use lib.Seq.{getD-append-add}
 use Rattle.table.specs.declared.Row.{Row}
 use Rattle.table.specs.declared.Table.{Table}
 use Rattle.table.specs.Limits.{mostRows}
-use Rattle.table.specs.Rows.{noRow, rowsOf, contents, rowAt}
+use Rattle.table.specs.Rows.{noRow, isThere, rowsOf, contents, rowAt, inUse}
 use Rattle.table.proofs.Laws as table
 use Rattle.machine.specs.declared.Frame.{Frame}
 use Rattle.machine.specs.Time.{shaped, unshaped, owner}
@@ -31,22 +32,30 @@ module _ (t : Table) (long : length (t .rows) ≡ mostRows) where
       ap (λ (i : ℕ). rowAt (contents t) i) e ∙ getD-append-add front (replicate (t .count - length (t .rows)) noRow) (k - length front) noRow ∙ zeros (t .count - length (t .rows)) (k - length front)
 
   module _ (f : Frame) where
-    of-row : {r : Row} → f .source < t .count → rowAt (contents t) (f .source) ≡ r → owner (contents t) f ≡ shaped (r .class)
+    of-row : {r : Row} → f .source < t .count → rowAt (contents t) (f .source) ≡ r → isThere r ≡ true → owner (contents t) f ≡ shaped (r .class)
     unfolding owner
-    of-row h e = rw (table.used (contents t) (f .source) (table.in-use t (f .source) h), e) refl
+    of-row h e there = rw (table.used (contents t) (f .source) (table.there-used (contents t) (f .source) (rw e there)), e) refl
 
-    of-none : t .count ≤ f .source → owner (contents t) f ≡ unshaped
+    of-none : inUse (contents t) (f .source) ≡ false → owner (contents t) f ≡ unshaped
     unfolding owner
-    of-none h = rw (table.unused (contents t) (f .source) (rw (table.rows-length t) h)) refl
+    of-none h = rw h refl
 
 cast-k : tie.Need-cast-k
 cast-k c = search needs
 
 returns : tie.Need-returns
 returns c =
+    let s = c .before .before in
+    let t = s .args .t1 in
+    rw (of-none t (table.places t _ (s .good .0)) (s .args .f) (table.unused (contents t) (s .args .f .source) (rw (table.rows-length t) (c .if1 .taken)))) refl
+
+returns-2 : tie.Need-returns-2
+returns-2 c =
     let s = c .before .before .before in
-    let long = table.places (s .args .t1) _ (s .good .0) in
-    rw (of-row (s .args .t1) long (s .args .f) (c .before .if1 .taken) (no-place (s .args .t1) long (s .args .f .source) (c .if2 .taken))) refl
+    let t = s .args .t1 in
+    let long = table.places t _ (s .good .0) in
+    let k = s .args .f .source in
+    rw (of-none t long (s .args .f) (table.empty (contents t) k (rw (no-place t long k (c .if2 .taken)) table.no-row-there))) refl
 
 mul-row : tie.Need-mul-row
 mul-row c = search needs
@@ -54,20 +63,36 @@ mul-row c = search needs
 element-copy-out-row : tie.Need-element-copy-out-row
 element-copy-out-row c = search needs
 
-class-sender-requires : tie.Need-class-sender-requires
-class-sender-requires c κs = search needs
+is-there-requires : tie.Need-is-there-requires
+is-there-requires c κs = search needs
 
-returns-2 : tie.Need-returns-2
-returns-2 c =
+-- the row at its place
+abbrev At : tie.After-is-there → Type 0
+At c = let s = c .before .before .before .before .before in rowAt (contents (s .args .t1)) (s .args .f .source) ≡ getD (s .args .t1 .rows) (s .args .f .source) noRow
+
+at-place : (c : tie.After-is-there) → At c
+at-place c =
     let s = c .before .before .before .before .before in
     let t = s .args .t1 in
-    let long = table.places t _ (s .good .0) in
-    rw (of-row t long (s .args .f) (c .before .before .before .if1 .taken) (table.row-in-place t long (s .args .f .source) (c .before .before .before .if1 .taken) (c .before .before .if2 .left))) (c .class-sender .ensures)
+    table.row-in-place t (table.places t _ (s .good .0)) (s .args .f .source) (c .before .before .before .if1 .left) (c .before .before .if2 .left)
 
 returns-3 : tie.Need-returns-3
 returns-3 c =
-    let s = c .before .before in
-    rw (of-none (s .args .t1) (table.places (s .args .t1) _ (s .good .0)) (s .args .f) (c .if1 .left)) refl
+    let i = c .before in
+    let s = i .before .before .before .before .before in
+    let t = s .args .t1 in
+    rw (of-none t (table.places t _ (s .good .0)) (s .args .f) (table.empty (contents t) (s .args .f .source) (ap isThere (at-place i) ∙ table.fails (i .is-there .ensures) (c .if3 .taken)))) refl
+
+class-sender-requires : tie.Need-class-sender-requires
+class-sender-requires c κs = search needs
+
+returns-4 : tie.Need-returns-4
+returns-4 c =
+    let e = c .before in
+    let i = e .before in
+    let s = i .before .before .before .before .before in
+    let t = s .args .t1 in
+    rw (of-row t (table.places t _ (s .good .0)) (s .args .f) (i .before .before .before .if1 .left) (at-place i) (table.holds (i .is-there .ensures) (e .if3 .left))) (c .class-sender .ensures)
 
 pub sender-spec : {M : Type 1} → statement M
 sender-spec =
@@ -75,8 +100,10 @@ sender-spec =
     (tie.spec
     cast-k
     returns
+    returns-2
     mul-row
     element-copy-out-row
+    is-there-requires
+    returns-3
     class-sender-requires
-    returns-2
-    returns-3)
+    returns-4)

@@ -1,4 +1,5 @@
--- `callbytes::answers::write_reply` meets its contract: a taken offer is put as 0, byte-times passed with the frame that ended, a denial by its number, and the flag says whether it was a denial.
+-- `callbytes::answers::write_reply` meets its contract: a taken call is put as 0, byte-times passed with the frame that ended, a denial by its number and place, and the flag says
+-- whether it was a denial.
 use denote.Ref.{now}
 use Rattle.callbytes.proofs.Answered.{reply-flag, reply-taken, reply-passed, reply-refused}
 use borrow.Author.Needs.{needs}
@@ -26,6 +27,9 @@ enum-known-reply-2 c = search needs
 number-requires : tie.Need-number-requires
 number-requires c κs = search needs
 
+place-requires : tie.Need-place-requires
+place-requires c κs = search needs
+
 cast-put-answer-2 : tie.Need-cast-put-answer-2
 cast-put-answer-2 c = search needs
 
@@ -48,7 +52,11 @@ same-length-3 : tie.Need-same-length-3
 same-length-3 c = search needs
 
 returns-3 : tie.Need-returns-3
-returns-3 c = (reply-flag (c .before .before .before .before .before .before .reply2 .given .1), reply-refused (now (c .before .before .before .before .before .before .before .before .before .args .out)) (c .before .before .before .number .result) (c .before .before .before .before .before .before .reply2 .given .1) (c .before .before .before .number .ensures .0) (c .before .before .put-answer2 .ensures))
+returns-3 c =
+    let told = c .before .before .before .before .before .before .before .reply2 .given .1 in
+    let number = c .before .before .before .before .number in
+    let place = c .before .before .before .place in
+    (reply-flag told, reply-refused (now (c .before .before .before .before .before .before .before .before .before .before .args .out)) (number .result) (place .result) told (number .ensures .0) (place .ensures) (c .before .before .put-answer2 .ensures))
 
 pub write-reply-spec : {M : Type 1} → statement M
 write-reply-spec =
@@ -61,6 +69,7 @@ write-reply-spec =
     write-passed-requires
     enum-known-reply-2
     number-requires
+    place-requires
     cast-put-answer-2
     put-answer-requires-2
     same-length

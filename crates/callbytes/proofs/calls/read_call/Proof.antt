@@ -1,5 +1,6 @@
--- `callbytes::calls::read_call` meets its contract: 24 bytes are three words, and those name the call; any other length names none.
-use Rattle.callbytes.proofs.Answered.{no-call, call-named}
+-- `callbytes::calls::read_call` meets its contract: 64 bytes are eight words, and those name the call if zeros stand behind the last that it uses; any other length names none.
+use Rattle.table.proofs.Laws.{fails, holds}
+use Rattle.callbytes.proofs.Named.{no-call, rest-used, rest-zero}
 use borrow.Author.Needs.{needs}
 use Rattle.callbytes.proofs.calls.read_call.Statement.{statement}
 use Rattle.callbytes.proofs.calls.read_call.Tie as tie
@@ -7,22 +8,22 @@ use Rattle.callbytes.proofs.calls.read_call.Tie as tie
 returns : tie.Need-returns
 returns c = no-call _ (c .if1 .taken)
 
-word-requires : tie.Need-word-requires
-word-requires c κs = search needs
+named-requires : tie.Need-named-requires
+named-requires c κs = search needs
 
-word-requires-2 : tie.Need-word-requires-2
-word-requires-2 c κs = search needs
+used-requires : tie.Need-used-requires
+used-requires c κs = search needs
 
-word-requires-3 : tie.Need-word-requires-3
-word-requires-3 c κs = search needs
-
-call-by-requires : tie.Need-call-by-requires
-call-by-requires c κs = search needs
+zeros-from-requires : tie.Need-zeros-from-requires
+zeros-from-requires c κs = search needs
 
 returns-2 : tie.Need-returns-2
-returns-2 c = call-named _ (c .before .before .before .before .if1 .left) (c .before .before .before .word .ensures) (c .before .before .word2 .ensures) (c .before .word3 .ensures) (c .call-by .ensures)
+returns-2 c = rest-used _ _ (c .before .before .before .before .if1 .left) (c .before .before .before .named .ensures) (fails (rw (c .before .before .used .ensures) at (c .before .zeros-from .ensures)) (c .if2 .taken))
+
+returns-3 : tie.Need-returns-3
+returns-3 c = rest-zero _ _ (c .before .before .before .before .if1 .left) (c .before .before .before .named .ensures) (holds (rw (c .before .before .used .ensures) at (c .before .zeros-from .ensures)) (c .if2 .left))
 
 pub read-call-spec : {M : Type 1} → statement M
 read-call-spec =
     tie.close
-    (tie.spec returns word-requires word-requires-2 word-requires-3 call-by-requires returns-2)
+    (tie.spec returns named-requires used-requires zeros-from-requires returns-2 returns-3)

@@ -1,19 +1,19 @@
 -- `frames::tests::sending_ok` meets its contract, by whether the frame names a row.
 use Prim.Native.Nat.{ℕ, _≤_, _<_}
-use mathlib.Core.Bool.{Bool, false}
+use mathlib.Core.Bool.{Bool, true, false}
 use mathlib.Core.List.{List}
-use mathlib.Core.Path.{_≡_, refl, sym, subst}
+use mathlib.Core.Path.{_≡_, refl, _∙_}
+use mathlib.Core.Logic.{⊎-elim}
 use lib.ListN.{length, getD}
 use borrow.Author.Tests.{le-leb, lt-leb}
-use Rattle.table.specs.declared.Row.{Row}
 use Rattle.table.specs.declared.Table.{Table}
 use Rattle.table.specs.Wire.{wireSize}
 use Rattle.table.specs.Limits.{mostRows}
-use Rattle.table.specs.Rows.{noRow, contents, rowAt}
+use Rattle.table.specs.Rows.{noRow, contents, inUse}
 use Rattle.table.proofs.Laws as table
 use Rattle.planner.proofs.Laws as law
 use Rattle.machine.specs.declared.Frame.{Frame}
-use Rattle.frames.proofs.Naming.{no-place, row-here}
+use Rattle.frames.proofs.Naming.{no-row, no-place, by-place, row-here}
 use Rattle.frames.specs.Tests.{frameTest, bestTest, sendingTest}
 use borrow.Author.Needs.{needs}
 use Rattle.frames.proofs.tests.sending_ok.Statement.{statement}
@@ -29,17 +29,13 @@ module _ (t : Table) (limits : List ℕ) (now : ℕ) (f : Frame) (left : ℕ) wh
   too-much-left h g = rw (le-leb 1 left h, lt-leb left (f .size) g) refl
 
   module _ (some : 1 ≤ left) (rest : left ≤ f .size) where
-    of-class : f .source < t .count → {r : Bool} → r ≡ frameTest (rowAt (contents t) (f .source) .class) (contents t) limits now f → r ≡ sendingTest (contents t) limits now f left
+    of-row : length (t .rows) ≡ mostRows → f .source < t .count → f .source < mostRows → inUse (contents t) (f .source) ≡ true → {r : Bool} → r ≡ frameTest (getD (t .rows) (f .source) noRow .class) (contents t) limits now f → r ≡ sendingTest (contents t) limits now f left
     unfolding sendingTest
-    of-class h e = rw (le-leb 1 left some, le-leb left (f .size) rest, table.used (contents t) (f .source) (table.in-use t (f .source) h)) e
+    of-row long h g u e = rw (le-leb 1 left some, le-leb left (f .size) rest, u, table.row-in-place t long (f .source) h g) e
 
-    of-row : length (t .rows) ≡ mostRows → f .source < t .count → f .source < mostRows → {r : Bool} → r ≡ frameTest (getD (t .rows) (f .source) noRow .class) (contents t) limits now f → r ≡ sendingTest (contents t) limits now f left
-    of-row long h g {r} e = of-class h (subst (λ (x : Row). r ≡ frameTest (x .class) (contents t) limits now f) (sym (table.row-in-place t long (f .source) h g)) e)
-
-    of-best : t .count ≤ f .source → {most : ℕ} {r : Bool} → most ≡ wireSize (t .header .payload) → r ≡ bestTest most now f → r ≡ sendingTest (contents t) limits now f left
+    of-best : inUse (contents t) (f .source) ≡ false → {most : ℕ} {r : Bool} → most ≡ wireSize (t .header .payload) → r ≡ bestTest most now f → r ≡ sendingTest (contents t) limits now f left
     unfolding sendingTest
-    of-best h m e =
-        rw (law.best-is (contents t), le-leb 1 left some, le-leb left (f .size) rest, table.unused (contents t) (f .source) (rw (table.rows-length t) h), ← m) e
+    of-best u m e = rw (law.best-is (contents t), le-leb 1 left some, le-leb left (f .size) rest, u, ← m) e
 
 returns : tie.Need-returns
 returns c = none-left _ _ _ _ _ (c .if1 .taken)
@@ -50,16 +46,14 @@ returns-2 c = too-much-left _ _ _ _ _ (c .before .before .if1 .left) (c .if2 .ta
 cast-k : tie.Need-cast-k
 cast-k c = search needs
 
-returns-3 : tie.Need-returns-3
-returns-3 c =
-    let s = c .before .before .before .before .before .before in
-    of-class (s .args .t3) _ (s .args .clock) (s .args .f) (s .args .left) (c .before .before .before .before .before .if1 .left) (c .before .before .before .if2 .left) (c .before .if3 .taken) (no-place _ (s .args .t3) (s .args .a) (s .args .b) _ _ (table.places (s .args .t3) _ (s .good .1 .1 .0)) (c .if4 .taken))
-
 mul-row : tie.Need-mul-row
 mul-row c = search needs
 
 element-copy-out-row : tie.Need-element-copy-out-row
 element-copy-out-row c = search needs
+
+is-there-requires : tie.Need-is-there-requires
+is-there-requires c κs = search needs
 
 residence-requires : tie.Need-residence-requires
 residence-requires c κs = search needs
@@ -67,12 +61,17 @@ residence-requires c κs = search needs
 row-frame-ok-requires : tie.Need-row-frame-ok-requires
 row-frame-ok-requires c κs = search needs
 
-returns-4 : tie.Need-returns-4
-returns-4 c =
-    let e = c .before .before .before in
+returns-3 : tie.Need-returns-3
+returns-3 c =
+    let e = c .before .before .before .before .before in
     let s = e .before .before .before .before .before .before in
-    let long = table.places (s .args .t3) _ (s .good .1 .1 .0) in
-    of-row (s .args .t3) _ (s .args .clock) (s .args .f) (s .args .left) (e .before .before .before .before .before .if1 .left) (e .before .before .before .if2 .left) long (e .before .if3 .taken) (e .if4 .left) (row-here _ (s .args .t3) (s .args .a) (s .args .b) _ _ long (e .before .if3 .taken) (e .if4 .left) (c .before .residence .ensures) (c .row-frame-ok .ensures))
+    let t = s .args .t3 in
+    let f = s .args .f in
+    let long = table.places t _ (s .good .1 .1 .0) in
+    let below = e .before .if3 .taken in
+    let placed = e .if4 .taken in
+    let u = by-place t (f .source) long below placed (c .before .before .before .is-there .ensures) ∙ c .before .before .if5 .taken in
+    of-row t _ (s .args .clock) f (s .args .left) (e .before .before .before .before .before .if1 .left) (e .before .before .before .if2 .left) long below placed u (row-here _ t (s .args .a) (s .args .b) _ f long below placed u (c .before .residence .ensures) (c .row-frame-ok .ensures))
 
 wire-size-requires : tie.Need-wire-size-requires
 wire-size-requires c κs = search needs
@@ -80,10 +79,19 @@ wire-size-requires c κs = search needs
 best-frame-ok-requires : tie.Need-best-frame-ok-requires
 best-frame-ok-requires c κs = search needs
 
-returns-5 : tie.Need-returns-5
-returns-5 c =
-    let s = c .before .before .before .before .before .before .before in
-    of-best (s .args .t3) _ (s .args .clock) (s .args .f) (s .args .left) (c .before .before .before .before .before .before .if1 .left) (c .before .before .before .before .if2 .left) (c .before .before .if3 .left) (c .before .wire-size .ensures .0) (c .best-frame-ok .ensures)
+returns-4 : tie.Need-returns-4
+returns-4 c =
+    let j = c .before .before in
+    let s = j .before .before .before .before .before in
+    let t = s .args .t3 in
+    let k = s .args .f .source in
+    let long = table.places t _ (s .good .1 .1 .0) in
+    let u : inUse (contents t) k ≡ false =
+    ⊎-elim
+    (λ w. by-place t k long (w .0 .taken) (w .1 .taken) (w .3 .ensures) ∙ w .4 .left)
+    (⊎-elim (λ w. no-place t k long (w .1 .left)) (λ w. no-row t k (w .left)))
+    (j .if3 .came) in
+    of-best t _ (s .args .clock) (s .args .f) (s .args .left) (j .before .before .before .before .if1 .left) (j .before .before .if2 .left) u (c .before .wire-size .ensures .0) (c .best-frame-ok .ensures)
 
 pub sending-ok-spec : {M : Type 1} → statement M
 sending-ok-spec =
@@ -92,12 +100,12 @@ sending-ok-spec =
     returns
     returns-2
     cast-k
-    returns-3
     mul-row
     element-copy-out-row
+    is-there-requires
     residence-requires
     row-frame-ok-requires
-    returns-4
+    returns-3
     wire-size-requires
     best-frame-ok-requires
-    returns-5)
+    returns-4)

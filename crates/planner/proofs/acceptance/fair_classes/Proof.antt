@@ -8,15 +8,15 @@ use Rattle.table.specs.declared.Class.{Class}
 use Rattle.table.specs.declared.Class.the-variants.{A, B}
 use Rattle.table.specs.declared.Refusal.the-variants.{Slopes, Shares}
 use Rattle.table.specs.Rows.{Contents, contents}
-use Rattle.table.proofs.Laws.{ranged-if}
-use Rattle.planner.specs.declared.Figures.{Figures}
-use Rattle.planner.specs.declared.Lane.{Lane}
+use Rattle.figures.specs.declared.Figures.{Figures}
+use Rattle.figures.specs.declared.Lane.{Lane}
 use Rattle.planner.specs.Sums.{idle, bestSize}
 use Rattle.planner.specs.Bound.{blocking}
 use Rattle.planner.specs.Opening.{usedOk, slopesOk, sharesOk}
 use Rattle.planner.specs.Plan.{laneOf}
-use Rattle.planner.specs.Steps.{figuresOf, slopesBy, laneA, laneB}
-use Rattle.planner.proofs.Checks.{slope-limits}
+use Rattle.figures.specs.Steps.{slopesBy, laneA, laneB}
+use Rattle.planner.specs.Steps.{figuresOf}
+use Rattle.planner.proofs.Checks.{ranged-by, slope-limits}
 use Rattle.planner.proofs.Verdicts.{refused-right, by-slopes, by-shares-a, by-shares-b}
 use borrow.Author.Needs.{needs}
 use Rattle.planner.proofs.acceptance.fair_classes.Statement.{statement}
@@ -57,8 +57,9 @@ refused-requires c κs = search needs
 
 returns : tie.Need-returns
 returns c =
-    let p = c .before .before .before .before .pre in
-    refused-right _ Slopes (by-slopes _ (p .1) (slopes _ (p .0 .is-a) (p .0 .is-b) (c .before .before .slopes-ok .ensures) (not-true _ (c .before .if1 .taken)))) (c .refused .ensures)
+    let s = c .before .before .before .before in
+    let p = s .pre in
+    refused-right _ _ _ Slopes (by-slopes (s .args .gaps) _ (p .1) (slopes _ (p .0 .is-a) (p .0 .is-b) (c .before .before .slopes-ok .ensures) (not-true _ (c .before .if1 .taken)))) (c .refused .ensures) refl
 
 cast-if2 : tie.Need-cast-if2
 cast-if2 c = search needs
@@ -69,8 +70,9 @@ refused-requires-2 c κs = search needs
 returns-2 : tie.Need-returns-2
 returns-2 c =
     let e = c .before .before .before .before in
-    let p = e .before .before .before .pre in
-    refused-right _ (Shares A) (by-shares-a _ (p .1) (fit e) (above A _ (p .0 .is-a) (c .before .if2 .taken))) (c .refused2 .ensures)
+    let s = e .before .before .before in
+    let p = s .pre in
+    refused-right _ _ _ (Shares A) (by-shares-a (s .args .gaps) _ (p .1) (fit e) (above A _ (p .0 .is-a) (c .before .if2 .taken))) (c .refused2 .ensures) refl
 
 cast-if3 : tie.Need-cast-if3
 cast-if3 c = search needs
@@ -82,32 +84,33 @@ returns-3 : tie.Need-returns-3
 returns-3 c =
     let o = c .before .before .before .before in
     let e = o .before .before .before in
-    let p = e .before .before .before .pre in
-    refused-right _ (Shares B) (by-shares-b _ (p .1) (fit e) (within A _ (p .0 .is-a) (o .if2 .left)) (above B _ (p .0 .is-b) (c .before .if3 .taken))) (c .refused3 .ensures)
+    let s = e .before .before .before in
+    let p = s .pre in
+    refused-right _ _ _ (Shares B) (by-shares-b (s .args .gaps) _ (p .1) (fit e) (within A _ (p .0 .is-a) (o .if2 .left)) (above B _ (p .0 .is-b) (c .before .if3 .taken))) (c .refused3 .ensures) refl
 
 lane-a-requires : tie.Need-lane-a-requires
 lane-a-requires c κs =
-    let p = c .before .before .before .before .before .before .before .before .before .pre in
-    (ranged-if _ (p .1) .idlea, (p .0 .small-a, p .0 .small-b))
+    let s = c .before .before .before .before .before .before .before .before .before in
+    (ranged-by (s .args .gaps) _ (s .pre .1) .idlea, (s .pre .0 .small-a, s .pre .0 .small-b))
 
 lane-b-requires : tie.Need-lane-b-requires
 lane-b-requires c κs =
-    let p = c .before .before .before .before .before .before .before .before .before .before .pre in
-    let r = ranged-if _ (p .1) in
-    (r .idlea, (r .idleb, (p .0 .small-a, p .0 .small-b)))
+    let s = c .before .before .before .before .before .before .before .before .before .before in
+    let r = ranged-by (s .args .gaps) _ (s .pre .1) in
+    (r .idlea, (r .idleb, (s .pre .0 .small-a, s .pre .0 .small-b)))
 
 timely-classes-requires : tie.Need-timely-classes-requires
 timely-classes-requires c κs =
-    let l = c .before .before in
+    let l = c .before .before .before in
     let o = l .before .before .before in
     let e = o .before .before .before in
     let p = e .before .before .before .pre in
     let u = slope-limits _ (fit e) in (
       record {
-        is-a = is-a _ (p .0 .is-a) (p .0 .is-b) (c .before .lane-a .ensures .0);
-        is-b = is-b _ (p .0 .is-a) (p .0 .is-b) (c .lane-b .ensures .0);
-        modest-a = c .before .lane-a .ensures .1;
-        modest-b = c .lane-b .ensures .1;
+        is-a = is-a _ (p .0 .is-a) (p .0 .is-b) (c .before .before .lane-a .ensures .0);
+        is-b = is-b _ (p .0 .is-a) (p .0 .is-b) (c .before .lane-b .ensures .0);
+        modest-a = c .before .before .lane-a .ensures .1;
+        modest-b = c .before .lane-b .ensures .1;
         used-a = u .0;
         used-b = u .1;
       },

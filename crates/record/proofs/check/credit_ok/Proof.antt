@@ -10,7 +10,7 @@ use Prim.Native.Nat.{ℕ, _-_, _*_, _≤_, _<_, _^_}
 use native.Mathlib.Nat.{mul-le-mul}
 use native.Mathlib.Omega.{arith}
 use mir.Syntax.{w64}
-use Rattle.planner.specs.declared.Lane.{Lane}
+use Rattle.figures.specs.declared.Lane.{Lane}
 use borrow.Author.Needs.{needs}
 use Rattle.record.proofs.check.credit_ok.Statement.{statement}
 use Rattle.record.proofs.check.credit_ok.Tie as tie

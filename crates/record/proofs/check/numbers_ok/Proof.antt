@@ -9,11 +9,11 @@ use mir.Facts.{toZ-ofZ}
 use borrow.Author.Tests.{le-leb, lt-leb}
 use Rattle.table.specs.declared.Class.{Class}
 use Rattle.table.specs.declared.Class.the-variants.{A, B}
-use Rattle.planner.specs.declared.Lane.{Lane}
+use Rattle.figures.specs.declared.Lane.{Lane}
 use Rattle.table.specs.Rows.{Contents, contents}
 use Rattle.table.specs.Limits.{D, mostSlope, mostSize}
 use Rattle.table.specs.Checks.{accepted}
-use Rattle.planner.specs.Opening.{opening}
+use Rattle.planner.specs.Opening.{standing}
 use Rattle.planner.specs.Plan.{laneOf}
 use Rattle.planner.proofs.Laws as law
 use Rattle.machine.specs.declared.Port.{Port}
@@ -26,9 +26,9 @@ use Rattle.record.proofs.check.numbers_ok.Statement.{statement}
 use Rattle.record.proofs.check.numbers_ok.Tie as tie
 
 -- the figures of a class are not large
-small : (k : Class) (t : Contents) {l : Lane} → opening t ≡ accepted → l ≡ laneOf k t → (l .idle ≤ mostSlope) × ((l .largest ≤ mostSize) × (l .blocking ≤ 5 * mostSize))
+small : (k : Class) (t : Contents) {l : Lane} → standing t ≡ accepted → l ≡ laneOf k t → (l .idle ≤ mostSlope) × ((l .largest ≤ mostSize) × (l .blocking ≤ 5 * mostSize))
 small k t o e =
-    let ok = law.accepted-if t o in
+    let ok = law.standing-if t o in
     rw e (law.idle-most t ok k, (law.largest-most t ok k, law.blocking-most t ok k))
 
 abbrev creditOf : Class → Port → ℤ

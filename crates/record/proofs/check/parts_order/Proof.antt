@@ -24,7 +24,7 @@ abbrev limits : tie.Start → List ℕ
 limits s = limitsBy (s .args .a) (s .args .b) (s .args .p .table .rows)
 
 residences : (s : tie.Start) → Right (view (s .args .p) .table) (limits s)
-residences s = right (s .args .p) (placed s .rows) (s .pre .0) (s .pre .1 .0) (s .pre .1 .1)
+residences s = right (s .args .p) (placed s .rows) (s .pre .0) (s .pre .1 .0) (s .pre .1 .1 .0)
 
 numbers-ok-requires : tie.Need-numbers-ok-requires
 numbers-ok-requires c κs = search needs
@@ -45,7 +45,7 @@ returns-2 c =
 rows-order-requires : tie.Need-rows-order-requires
 rows-order-requires c κs =
     let s = c .before .before .before .before in
-    few (s .args .p .table) (s .pre .0)
+    (few (s .args .p .table) (s .pre .0), s .pre .1 .1 .1 .1 .1)
 
 returns-3 : tie.Need-returns-3
 returns-3 c =
@@ -54,7 +54,7 @@ returns-3 c =
     let s = n .before .before in
     let p = s .args .p in
     let fit = holds (e .before .others-ok .ensures) (e .if2 .left) in
-    rw (by-rows (view p) (limits s) (residences s) (accepted-table p (s .pre .0)) (best-placed p _ (placed s) fit) (holds (n .before .numbers-ok .ensures) (n .if1 .left)) fit) at (c .rows-order .ensures)
+    rw (by-rows (view p) (limits s) (residences s) (accepted-table p (s .pre .0)) (s .pre .1 .1 .1 .0) (s .pre .1 .1 .1 .1 .0) (best-placed p _ (placed s) fit) (holds (n .before .numbers-ok .ensures) (n .if1 .left)) fit) at (c .rows-order .ensures)
 
 pub parts-order-spec : {M : Type 1} → statement M
 parts-order-spec = tie.close (tie.spec numbers-ok-requires returns others-ok-requires returns-2 rows-order-requires returns-3)

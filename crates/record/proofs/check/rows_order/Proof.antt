@@ -1,32 +1,32 @@
 -- `record::check::rows_order` meets its contract: a queue that counts more frames than it has places fails, and else the view's queues are the places in use.
 use Prim.Native.Nat.{ℕ, _≤_, _<_}
 use mathlib.Core.Bool.{Bool, true, false, _&&_, and-false}
-use mathlib.Core.List.{List, _++_, map}
+use mathlib.Core.List.{List, _++_}
 use mathlib.Core.Path.{_≡_, refl, sym, _∙_}
 use lib.Dec.{leb}
 use lib.ListN.{length, take}
 use Rattle.table.specs.declared.Class.{Class}
 use Rattle.table.specs.declared.Class.the-variants.{A, B}
 use Rattle.table.specs.Limits.{mostRows}
-use Rattle.table.specs.Rows.{Contents, contents}
+use Rattle.table.specs.Rows.{Contents, rowsOf, contents}
 use Rattle.table.proofs.Laws as table
-use Rattle.planner.specs.declared.Lane.{Lane}
+use Rattle.figures.specs.declared.Lane.{Lane}
 use Rattle.machine.specs.declared.Frame.{Frame}
 use Rattle.machine.specs.declared.Port.{Port}
 use Rattle.machine.specs.Limits.{classPlaces}
-use Rattle.machine.specs.State.{waiting, instantOf, view}
+use Rattle.machine.specs.State.{waiting, instantsOf, view}
 use Rattle.machine.specs.Record.{allOf, noneAfter, sending, eachRow, rowsTaken}
-use Rattle.machine.proofs.Places.{Places, port-places, waits, too-many, instants-few}
+use Rattle.machine.proofs.Places.{Places, port-places, waits, too-many}
 use Rattle.frames.specs.Tests.{limitsBy, frameTest}
 use Rattle.frames.proofs.Laws.{no-frame}
-use Rattle.tally.specs.Rows as tally
 use Rattle.spacing.specs.Spread.{spreadTest}
+use Rattle.notes.specs.declared.Order.{Order}
+use Rattle.notes.specs.declared.Order.the-variants.{Broken, Rising, Mixed}
+use Rattle.notes.specs.Notes.{queuesTest}
 use Rattle.tally.specs.Rows.{heldTest, rowFramesTest, TestBy}
-use Rattle.tally.specs.declared.Order.{Order}
-use Rattle.tally.specs.declared.Order.the-variants.{Broken, Rising, Mixed}
 use Rattle.spacing.proofs.Laws.{queueOf, no-place, all-places}
 use Rattle.tally.proofs.Laws.{quiet}
-use Rattle.record.specs.Steps.{waitingTest, rowsTest}
+use Rattle.record.specs.Steps.{waitingTest, instantsBy, Bounded, rowsTest}
 use Rattle.table.proofs.Laws.{fails, holds}
 use borrow.Author.Needs.{needs}
 use borrow.Author.Tests.{leb-true, leb-false}
@@ -34,7 +34,7 @@ use Rattle.record.proofs.check.rows_order.Statement.{statement}
 use Rattle.record.proofs.check.rows_order.Tie as tie
 
 abbrev past : Port → Bool
-past p = noneAfter (p .clock) (map instantOf (take (p .table .count) (p .last)))
+past p = noneAfter (p .clock) (instantsOf (rowsOf (p .table)) (p .last))
 
 abbrev framesOk : List ℕ → Port → Bool
 framesOk limits p = rowFramesTest (p .wire) (p .a) (p .b) (p .table) limits (p .last) (p .clock)
@@ -49,7 +49,7 @@ module _ (limits : List ℕ) (p : Port) (places : Places p) (few : p .table .cou
   viewed = waitingTest limits (view p) && eachRow (heldTest (view p .table) limits (view p .last) (sending (view p .wire) ++ (view p .a ++ view p .b))) (view p)
 
   in-places : p .a .count ≤ classPlaces → p .b .count ≤ classPlaces → viewed ≡ framesOk limits p
-  unfolding view waitingTest rowFramesTest tally.queuesTest
+  unfolding view waitingTest rowFramesTest queuesTest
   in-places a b =
       rw (
         table.rows-length (p .table),
@@ -74,7 +74,7 @@ module _ (limits : List ℕ) (p : Port) (places : Places p) (few : p .table .cou
 
   is-past : rowsTaken (view p) ≡ past p
   unfolding view rowsTaken
-  is-past = rw (instants-few (p .table .count) (p .last) (rw (places .last) few)) refl
+  is-past = refl
 
   by-parts : rowsTest limits (view p) ≡ (past p && framesOk limits p)
   unfolding rowsTest
@@ -92,14 +92,19 @@ by-order a b p places few e Broken told = rw (by-parts (limitsBy a b (p .table .
 by-order a b p places few e Rising told = rw (by-parts (limitsBy a b (p .table .rows)) p places few, e, told) refl
 by-order a b p places few e Mixed told = rw (by-parts (limitsBy a b (p .table .rows)) p places few, e, told) refl
 
+-- the instants by the bounds are the record's
+by-past : (p : Port) (made : List ℕ) → Bounded p made → {r : Bool} → r ≡ noneAfter (p .clock) (instantsBy (take (p .table .count) made) (p .last)) → r ≡ past p
+unfolding view
+by-past p made b e = rw (← b .last) e
+
 instants-ok-requires : tie.Need-instants-ok-requires
-instants-ok-requires c κs = search needs
+instants-ok-requires c κs = (c .before .pre .0, c .before .pre .1 .long)
 
 returns : tie.Need-returns
 returns c =
     let s = c .before .before .before in
     let p = s .args .p in
-    late _ p (port-places p _ (s .good .0)) (s .pre) (fails (c .before .instants-ok .ensures) (c .if1 .taken))
+    late _ p (port-places p _ (s .good .0)) (s .pre .0) (fails (by-past p _ (s .pre .1) (c .before .instants-ok .ensures)) (c .if1 .taken))
 
 -- no instant is after the clock: the entry, its places, and what that says
 abbrev start : tie.After-no-row-frame → tie.Start
@@ -109,7 +114,7 @@ placed : (c : tie.After-no-row-frame) → Places (start c .args .p)
 placed c = port-places (start c .args .p) _ (start c .good .0)
 
 on-time : (c : tie.After-no-row-frame) → past (start c .args .p) ≡ true
-on-time c = holds (c .before .before .instants-ok .ensures) (c .before .if1 .left)
+on-time c = holds (by-past (start c .args .p) _ (start c .pre .1) (c .before .before .instants-ok .ensures)) (c .before .if1 .left)
 
 no-row-frame-requires : tie.Need-no-row-frame-requires
 no-row-frame-requires c κs = search needs
@@ -118,7 +123,7 @@ returns-2 : tie.Need-returns-2
 returns-2 c =
     let d = c .before in
     let p = start d .args .p in
-    quiet-rows _ p (placed d) (start d .pre) (on-time d) (quiet (p .wire) (p .a) (p .b) (p .table) (start d .pre) _ (p .last) (p .clock) (sym (d .no-row-frame .ensures) ∙ c .if2 .taken))
+    quiet-rows _ p (placed d) (start d .pre .0) (on-time d) (quiet (p .wire) (p .a) (p .b) (p .table) (start d .pre .0) _ (p .last) (p .clock) (sym (d .no-row-frame .ensures) ∙ c .if2 .taken))
 
 order-requires : tie.Need-order-requires
 order-requires c κs = search needs
@@ -126,7 +131,7 @@ order-requires c κs = search needs
 returns-3 : tie.Need-returns-3
 returns-3 c =
     let d = c .before .before in
-    by-order (start d .args .a) (start d .args .b) (start d .args .p) (placed d) (start d .pre) (on-time d) (c .order .result) (c .order .ensures)
+    by-order (start d .args .a) (start d .args .b) (start d .args .p) (placed d) (start d .pre .0) (on-time d) (c .order .result) (c .order .ensures)
 
 pub rows-order-spec : {M : Type 1} → statement M
 rows-order-spec =

@@ -5,8 +5,9 @@ use mathlib.Core.Path.{_≡_, sym, _∙_}
 use native.Mathlib.Omega.{arith}
 use denote.Ref.{now}
 use borrow.Author.Tests.{not-true, not-false}
-use Rattle.recordbytes.specs.Layout.{rowWidth, rowsStart}
-use Rattle.recordbytes.specs.Record.{rowFits, each}
+use Rattle.rowbytes.specs.Row.{rowWidth, rowFits}
+use Rattle.recordbytes.specs.Layout.{rowsStart}
+use Rattle.recordbytes.specs.Record.{each}
 use Rattle.recordbytes.proofs.Laws.{each-none, each-next, each-fails}
 use Rattle.recordread.proofs.fits.rows_fit.Statement.{statement}
 use Rattle.recordread.proofs.fits.rows_fit.Tie as tie

@@ -23,6 +23,9 @@ best-at-requires c κs = (counts _ (c .before .before .before .before .pre) .bes
 lasts-at-requires : tie.Need-lasts-at-requires
 lasts-at-requires c κs = rw (c .before .before .before .table-at .ensures) (rw (count-named _) (counts _ (c .before .before .before .before .before .pre) .rows))
 
+bounds-at-requires : tie.Need-bounds-at-requires
+bounds-at-requires c κs = rw (c .before .before .before .before .table-at .ensures) (rw (count-named _) (counts _ (c .before .before .before .before .before .before .pre) .rows))
+
 wire-at-requires : tie.Need-wire-at-requires
 wire-at-requires c κs = search needs
 
@@ -48,7 +51,7 @@ signed-of-requires-2 : tie.Need-signed-of-requires-2
 signed-of-requires-2 c κs = search needs
 
 returns : tie.Need-returns
-returns c = port-named _ (c .before .before .before .before .before .before .before .before .before .before .table-at .ensures) (c .before .before .before .before .before .before .before .before .before .queue-at .ensures) (c .before .before .before .before .before .before .before .before .queue-at2 .ensures) (c .before .before .before .before .before .before .before .best-at .ensures) (c .before .before .before .before .before .before .lasts-at .ensures) (c .before .before .before .before .before .wire-at .ensures) (c .before .before .before .before .word .ensures) (plain (c .before .before .signed-of .ok) ∙ c .before .before .signed-of .ensures ∙ ap signedOf (c .before .before .before .word2 .ensures)) (plain (c .signed-of2 .ok) ∙ c .signed-of2 .ensures ∙ ap signedOf (c .before .word3 .ensures))
+returns c = port-named _ (c .before .before .before .before .before .before .before .before .before .before .before .table-at .ensures) (c .before .before .before .before .before .before .before .before .before .before .queue-at .ensures) (c .before .before .before .before .before .before .before .before .before .queue-at2 .ensures) (c .before .before .before .before .before .before .before .before .best-at .ensures) (c .before .before .before .before .before .before .before .lasts-at .ensures) (c .before .before .before .before .before .before .bounds-at .ensures) (c .before .before .before .before .before .wire-at .ensures) (c .before .before .before .before .word .ensures) (plain (c .before .before .signed-of .ok) ∙ c .before .before .signed-of .ensures ∙ ap signedOf (c .before .before .before .word2 .ensures)) (plain (c .signed-of2 .ok) ∙ c .signed-of2 .ensures ∙ ap signedOf (c .before .word3 .ensures))
 
 pub port-of-spec : {M : Type 1} → statement M
 port-of-spec =
@@ -59,6 +62,7 @@ port-of-spec =
     queue-at-requires-2
     best-at-requires
     lasts-at-requires
+    bounds-at-requires
     wire-at-requires
     word-requires
     add-word

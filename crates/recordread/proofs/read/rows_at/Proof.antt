@@ -8,8 +8,8 @@ use Rattle.words.specs.Words.{gathered}
 use Rattle.machine.specs.State.{placed}
 use Rattle.table.specs.Limits.{mostRows}
 use Rattle.table.specs.Rows.{noRow}
-use Rattle.recordbytes.specs.Layout.{rowsStart, rowWidth}
-use Rattle.recordbytes.specs.Record.{rowAt}
+use Rattle.rowbytes.specs.Row.{rowWidth, rowAt}
+use Rattle.recordbytes.specs.Layout.{rowsStart}
 use Rattle.recordread.proofs.Named.{none-gathered, one-more}
 use Rattle.recordread.proofs.read.rows_at.Statement.{statement}
 use Rattle.recordread.proofs.read.rows_at.Tie as tie

@@ -7,8 +7,8 @@ use Rattle.words.specs.Words.{spread}
 use Rattle.words.proofs.Laws.{stored-length, spread-none, spread-next}
 use Rattle.table.specs.Limits.{mostRows}
 use Rattle.table.proofs.Laws.{places}
-use Rattle.recordbytes.specs.Layout.{rowsStart, rowWidth}
-use Rattle.recordbytes.specs.Record.{rowWords}
+use Rattle.rowbytes.specs.Row.{rowWidth, rowWords}
+use Rattle.recordbytes.specs.Layout.{rowsStart}
 use Rattle.recordwrite.proofs.Storage.{rows-placed}
 use Rattle.recordwrite.proofs.write.put_rows.Statement.{statement}
 use Rattle.recordwrite.proofs.write.put_rows.Tie as tie

@@ -2,7 +2,7 @@
 -- of crate `effects`.
 use Prim.Native.Nat.{_-_, _*_, _≤_, _<_}
 use mathlib.Core.Logic.{⊎-elim}
-use mathlib.Core.Path.{_≡_, refl, _∙_}
+use mathlib.Core.Path.{_≡_, refl, sym, _∙_}
 use native.Mathlib.Omega.{arith}
 use denote.Ref.{now}
 use lib.ListN.{length}
@@ -18,6 +18,7 @@ use Rattle.machine.proofs.Places.{Places, port-places}
 use Rattle.effects.specs.Records.{settledOn}
 use Rattle.effects.proofs.Laws.{Carried, carried-none, carried-left-a, carried-left-b, carried-left-best, carried-joined-a, carried-joined-b, carried-joined-best, carries}
 use Rattle.callbytes.specs.Calls.{answerSize, callOf}
+use Rattle.turns.proofs.Laws.{plain-is}
 use Rattle.replay.specs.List.{callAt, countOf}
 use Rattle.replay.proofs.Listing.{room, same-size, Sofar, begins, goes-on, all-done}
 use borrow.Author.Needs.{needs}
@@ -31,8 +32,8 @@ abbrev μ-loop : tie.MeasureT-loop
 μ-loop calls out₀ count p₀ i₀ out p i = count - i
 
 -- what the call comes to
-comes : (c : tie.After-effect Inv-loop μ-loop) → Comes (c .before .before .before .before .loop .p) (callOf (c .before .before .asked-at .result)) (c .effect .result)
-comes c = c .effect .ensures (c .before .is-sound .ensures)
+comes : (c : tie.After-effect Inv-loop μ-loop) → Comes (c .before .before .before .before .before .before .loop .p) (callOf (c .before .before .before .before .asked-at .result)) (c .effect .result)
+comes c = rw (plain-is (c .before .before .before .before .asked-at .result) (sym (c .before .before .is-patch .ensures) ∙ c .before .if1 .left)) at (c .effect .ensures (c .before .before .before .is-sound .ensures))
 
 -- the row of a frame that joins has a place for its instant
 a-placed : (c : tie.After-effect Inv-loop μ-loop) (f : Frame) → c .effect .result .change ≡ JoinedA f → f .source < mostRows
@@ -53,8 +54,14 @@ mul-at c = omega arith
 is-sound-requires : tie.Need-is-sound-requires Inv-loop μ-loop
 is-sound-requires c κs = search needs
 
-effect-requires : tie.Need-effect-requires Inv-loop μ-loop
-effect-requires c κs = search needs
+is-patch-requires : tie.Need-is-patch-requires Inv-loop μ-loop
+is-patch-requires c κs = search needs
+
+patch-requires : tie.Need-patch-requires Inv-loop μ-loop
+patch-requires c κs = search needs
+
+reply-of-requires : tie.Need-reply-of-requires Inv-loop μ-loop
+reply-of-requires c κs = search needs
 
 sub-write-reply : tie.Need-sub-write-reply Inv-loop μ-loop
 sub-write-reply c = omega arith
@@ -67,6 +74,53 @@ part-write-reply-end c = omega arith
 
 write-reply-requires : tie.Need-write-reply-requires Inv-loop μ-loop
 write-reply-requires c κs = search needs
+
+carried-requires : tie.Need-carried-requires Inv-loop μ-loop
+carried-requires c κs = search needs
+
+add-i : tie.Need-add-i Inv-loop μ-loop
+add-i c = let s = c .before .before .before .before .before .before .before .before .before .before .before .before .before .before .before in omega (arith, c .before .before .before .before .before .before .before .before .before .before .before .loop-test .taken, c .before .before .before .before .before .before .before .before .before .before .before .before .loop .inv .0, s .good .1 .0)
+
+loop-less : tie.Need-loop-less Inv-loop μ-loop
+loop-less c = omega arith
+
+loop-again : tie.Need-loop-again Inv-loop μ-loop
+loop-again c =
+    let w = c .before .before .before in
+    let o = w .before .before in
+    let r = o .before .patch in
+    let q = c .carried in
+    let k = o .before .before .before in
+    let l = k .before .before .before .before .loop in
+    let s = k .before .before .before .before .before .before .before in
+    let calls = now (s .args .calls) in
+    let is = sym (k .is-patch .ensures) ∙ o .before .before .if1 .taken in
+    let made = rw (k .before .before .asked-at .ensures) at (r .ensures .0 is (k .before .is-sound .ensures)) in
+    let is-after = rw (← q .ensures) at (made .port) in
+    let below : l .i < countOf calls = omega (arith, k .before .before .before .loop-test .taken, l .inv .0) in
+    let fits = room (l .out) (l .i) (countOf calls) below (rw (l .inv .2) (s .pre)) in
+    let put = rw (o .reply-of .ensures) at (w .write-reply .ensures .1) in (
+      refl,
+      omega arith,
+      same-size (l .out) (answerSize * l .i) _ (w .write-reply .last .0) fits put ∙ l .inv .2,
+      port-places (q .result) _ (q .ok),
+      λ t e. goes-on t calls (now (s .args .out)) (l .i) (l .p) (q .result) _ (l .out) (w .write-reply .last .0) fits (l .inv .4 t e) (made .answer) is-after put,
+    )
+
+effect-requires : tie.Need-effect-requires Inv-loop μ-loop
+effect-requires c κs = search needs
+
+sub-write-reply-2 : tie.Need-sub-write-reply-2 Inv-loop μ-loop
+sub-write-reply-2 c = omega arith
+
+part-write-reply-start-2 : tie.Need-part-write-reply-start-2 Inv-loop μ-loop
+part-write-reply-start-2 c = omega arith
+
+part-write-reply-end-2 : tie.Need-part-write-reply-end-2 Inv-loop μ-loop
+part-write-reply-end-2 c = omega arith
+
+write-reply-requires-2 : tie.Need-write-reply-requires-2 Inv-loop μ-loop
+write-reply-requires-2 c κs = search needs
 
 enum-told : tie.Need-enum-told Inv-loop μ-loop
 enum-told c = search needs
@@ -95,8 +149,8 @@ enum-known-change c = search needs
 cast-row : tie.Need-cast-row Inv-loop μ-loop
 cast-row c = search needs
 
-mul-t35 : tie.Need-mul-t35 Inv-loop μ-loop
-mul-t35 c = search needs
+mul-t46 : tie.Need-mul-t46 Inv-loop μ-loop
+mul-t46 c = search needs
 
 element-set-from-p : tie.Need-element-set-from-p Inv-loop μ-loop
 element-set-from-p c = a-placed (c .before .before .before .before .before .before .before .before) (c .before .before .change .given .0 .0) (c .before .before .change .given .1)
@@ -110,8 +164,8 @@ enum-known-change-2 c = search needs
 cast-row-2 : tie.Need-cast-row-2 Inv-loop μ-loop
 cast-row-2 c = search needs
 
-mul-t40 : tie.Need-mul-t40 Inv-loop μ-loop
-mul-t40 c = search needs
+mul-t51 : tie.Need-mul-t51 Inv-loop μ-loop
+mul-t51 c = search needs
 
 element-set-from-p-2 : tie.Need-element-set-from-p-2 Inv-loop μ-loop
 element-set-from-p-2 c = b-placed (c .before .before .before .before .before .before .before .before) (c .before .before .change2 .given .0 .0) (c .before .before .change2 .given .1)
@@ -128,19 +182,19 @@ best-pushed-requires c κs = search needs
 settled-requires : tie.Need-settled-requires Inv-loop μ-loop
 settled-requires c κs = search needs
 
-add-i : tie.Need-add-i Inv-loop μ-loop
-add-i c = let s = c .before .before .before .before .before .before .before .before .before .before .before .before .before in omega (arith, c .before .before .before .before .before .before .before .before .before .loop-test .taken, c .before .before .before .before .before .before .before .before .before .before .loop .inv .0, s .good .1 .0)
+add-i-2 : tie.Need-add-i-2 Inv-loop μ-loop
+add-i-2 c = let s = c .before .before .before .before .before .before .before .before .before .before .before .before .before .before .before in omega (arith, c .before .before .before .before .before .before .before .before .before .before .before .loop-test .taken, c .before .before .before .before .before .before .before .before .before .before .before .before .loop .inv .0, s .good .1 .0)
 
-loop-less : tie.Need-loop-less Inv-loop μ-loop
-loop-less c = omega arith
+loop-less-2 : tie.Need-loop-less-2 Inv-loop μ-loop
+loop-less-2 c = omega arith
 
-met : (c : tie.After-settled Inv-loop μ-loop) → Carried (c .before .before .before .before .before .before .before .before .before .before .loop .p) (c .before .before .before .before .before .before .effect .result) (c .settled .result)
+met : (c : tie.After-settled Inv-loop μ-loop) → Carried (c .before .before .before .before .before .before .before .before .before .before .before .before .loop .p) (c .before .before .before .before .before .before .effect .result) (c .settled .result)
 met c =
     let a = c .before .before .before .before .before .before in
-    let p = a .before .before .before .before .loop .p in
+    let p = a .before .before .before .before .before .before .loop .p in
     let e = a .effect .result in
     let m = c .before .match in
-    let places = a .before .before .before .before .loop .inv .3 in
+    let places = a .before .before .before .before .before .before .loop .inv .3 in
     let changed : Carried p e (settledOn e (m .p)) =
     ⊎-elim
     (λ w. rw (w .2) (carried-none p e (w .1 .given .1)))
@@ -157,18 +211,18 @@ met c =
     (λ w. rw (w .5) (carried-joined-best p e (w .1 .given .0 .0) (w .1 .given .1) (w .4 .result) (w .4 .ensures)))))))) (m .came) in
     rw (c .settled .ensures) changed
 
-came : (c : tie.After-settled Inv-loop μ-loop) → Gives (c .before .before .before .before .before .before .before .before .before .before .loop .p) (callAt (now (c .before .before .before .before .before .before .before .before .before .before .before .before .before .args .calls)) (c .before .before .before .before .before .before .before .before .before .before .loop .i)) (replyAnswer (c .before .before .before .before .before .before .effect .result .reply)) (c .settled .result)
-came c = rw (c .before .before .before .before .before .before .before .before .asked-at .ensures) at (carries (comes (c .before .before .before .before .before .before)) (met c))
+came : (c : tie.After-settled Inv-loop μ-loop) → Gives (c .before .before .before .before .before .before .before .before .before .before .before .before .loop .p) (callAt (now (c .before .before .before .before .before .before .before .before .before .before .before .before .before .before .before .args .calls)) (c .before .before .before .before .before .before .before .before .before .before .before .before .loop .i)) (replyAnswer (c .before .before .before .before .before .before .effect .result .reply)) (c .settled .result)
+came c = rw (c .before .before .before .before .before .before .before .before .before .before .asked-at .ensures) at (carries (comes (c .before .before .before .before .before .before)) (met c))
 
-loop-again : tie.Need-loop-again Inv-loop μ-loop
-loop-again c =
-    let l = c .before .before .before .before .before .before .before .before .before .before .loop in
-    let s = c .before .before .before .before .before .before .before .before .before .before .before .before .before in
+loop-again-2 : tie.Need-loop-again-2 Inv-loop μ-loop
+loop-again-2 c =
+    let l = c .before .before .before .before .before .before .before .before .before .before .before .before .loop in
+    let s = c .before .before .before .before .before .before .before .before .before .before .before .before .before .before .before in
     let calls = now (s .args .calls) in
     let made = came c in
-    let below : l .i < countOf calls = omega (arith, c .before .before .before .before .before .before .before .before .before .loop-test .taken, l .inv .0) in
+    let below : l .i < countOf calls = omega (arith, c .before .before .before .before .before .before .before .before .before .before .before .loop-test .taken, l .inv .0) in
     let fits = room (l .out) (l .i) (countOf calls) below (rw (l .inv .2) (s .pre)) in
-    let w = c .before .before .before .before .write-reply in (
+    let w = c .before .before .before .before .write-reply2 in (
       refl,
       omega arith,
       same-size (l .out) (answerSize * l .i) _ (w .last .0) fits (w .ensures .1) ∙ l .inv .2,
@@ -195,11 +249,22 @@ steps-spec =
     asked-at-requires
     mul-at
     is-sound-requires
-    effect-requires
+    is-patch-requires
+    patch-requires
+    reply-of-requires
     sub-write-reply
     part-write-reply-start
     part-write-reply-end
     write-reply-requires
+    carried-requires
+    add-i
+    loop-less
+    loop-again
+    effect-requires
+    sub-write-reply-2
+    part-write-reply-start-2
+    part-write-reply-end-2
+    write-reply-requires-2
     enum-told
     enum-told-2
     shifted-requires
@@ -209,19 +274,19 @@ steps-spec =
     best-shifted-requires
     enum-known-change
     cast-row
-    mul-t35
+    mul-t46
     element-set-from-p
     pushed-requires
     enum-known-change-2
     cast-row-2
-    mul-t40
+    mul-t51
     element-set-from-p-2
     pushed-requires-2
     enum-known-change-3
     best-pushed-requires
     settled-requires
-    add-i
-    loop-less
-    loop-again
+    add-i-2
+    loop-less-2
+    loop-again-2
     same-length
     returns)

@@ -16,11 +16,14 @@ enum-known-o c = search needs
 number-requires : tie.Need-number-requires
 number-requires c κs = search needs
 
+place-requires : tie.Need-place-requires
+place-requires c κs = search needs
+
 returns : tie.Need-returns
 returns c = rw (c .enum-told .given .1) refl
 
 returns-2 : tie.Need-returns-2
-returns-2 c = rw (c .before .before .o .given .1, c .number .ensures .0)
+returns-2 c = rw (c .before .before .before .o .given .1, c .before .number .ensures .0, c .place .ensures)
 
 pub offered-spec : {M : Type 1} → statement M
-offered-spec = tie.close (tie.spec enum-told cast-t4 enum-known-o number-requires returns returns-2)
+offered-spec = tie.close (tie.spec enum-told cast-t4 enum-known-o number-requires place-requires returns returns-2)

@@ -1,6 +1,6 @@
 -- `tally::rows::counts_ok` meets its contract: all rows below i pass.
 use Prim.Native.Nat.{ℕ, _-_, _≤_}
-use mathlib.Core.Bool.{Bool, true}
+use mathlib.Core.Bool.{Bool, true, cond}
 use mathlib.Core.List.{List}
 use mathlib.Core.Path.{_≡_, refl, sym}
 use native.Mathlib.Omega.{arith}
@@ -9,10 +9,10 @@ use lib.ListN.{getD}
 use Rattle.table.specs.declared.Table.{Table}
 use Rattle.table.specs.Limits.{mostRows}
 use Rattle.table.specs.Wire.{periodOf}
-use Rattle.table.specs.Rows.{noRow}
+use Rattle.table.specs.Rows.{noRow, isThere}
 use Rattle.table.proofs.Laws.{fails, holds}
-use Rattle.planner.specs.declared.Lane.{Lane}
-use Rattle.planner.specs.Plan.{residenceBy}
+use Rattle.figures.specs.declared.Lane.{Lane}
+use Rattle.figures.specs.Lanes.{residenceBy}
 use Rattle.machine.specs.declared.Last.{Last}
 use Rattle.machine.specs.State.{instantOf, zeroLast}
 use Rattle.machine.specs.Record.{upTo}
@@ -28,7 +28,7 @@ abbrev μ-loop : tie.MeasureT-loop
 μ-loop newest counts ofa ofb t last n i₀ i = n - i
 
 -- the limit that was worked out is the row's residence
-by-residence : (t : Table) (ofa ofb : Lane) (last : List Last) (newest counts : List ℕ) (k : ℕ) {r : Bool} {limit : ℕ} → limit ≡ residenceBy ofa ofb (getD (t .rows) k noRow) → r ≡ countTest (getD counts k 0) (getD newest k 0) (instantOf (getD last k zeroLast)) limit (periodOf (getD (t .rows) k noRow)) → r ≡ countsTest t ofa ofb last newest counts k
+by-residence : (t : Table) (ofa ofb : Lane) (last : List Last) (newest counts : List ℕ) (k : ℕ) {r : Bool} {limit : ℕ} → limit ≡ residenceBy ofa ofb (getD (t .rows) k noRow) → r ≡ cond (isThere (getD (t .rows) k noRow)) (countTest (getD counts k 0) (getD newest k 0) (instantOf (getD last k zeroLast)) limit (periodOf (getD (t .rows) k noRow))) true → r ≡ countsTest t ofa ofb last newest counts k
 by-residence t ofa ofb last newest counts k e q = rw (← e) q
 
 -- a turn of the loop: the entry, and the test of the rows

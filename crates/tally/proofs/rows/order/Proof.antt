@@ -15,22 +15,22 @@ use Rattle.table.specs.Limits.{mostRows, classPlaces}
 use Rattle.table.specs.Rows.{contents}
 use Rattle.table.proofs.Laws as table
 use Rattle.table.proofs.Laws.{fails, holds}
-use Rattle.planner.specs.declared.Lane.{Lane}
+use Rattle.figures.specs.declared.Lane.{Lane}
 use Rattle.machine.specs.declared.Last.{Last}
 use Rattle.machine.specs.declared.Queue.{Queue}
 use Rattle.machine.specs.declared.Wire.{Wire}
 use Rattle.machine.specs.Record.{upTo}
-use Rattle.machine.proofs.Places.{last-places}
 use Rattle.frames.specs.Tests.{limitsBy}
-use Rattle.tally.specs.declared.Order.{Order}
-use Rattle.tally.specs.declared.Order.the-variants.{Broken, Rising, Mixed}
+use Rattle.notes.specs.declared.Order.{Order}
+use Rattle.notes.specs.declared.Order.the-variants.{Broken, Rising, Mixed}
 use Rattle.spacing.specs.Spread.{inRecord, inPlaces, spacedTest, spreadTest}
-use Rattle.tally.specs.Rows.{queuesTest, rowFramesTest, TestBy}
-use Rattle.tally.specs.Steps.{Notes, Few, NotedBy, countsTest}
-use Rattle.tally.proofs.Order.{the-type}
+use Rattle.notes.specs.Notes.{queuesTest}
+use Rattle.tally.specs.Rows.{rowFramesTest, TestBy}
+use Rattle.notes.specs.Notes.{Notes, Few, NotedBy}
+use Rattle.tally.specs.Steps.{countsTest}
+use Rattle.notes.proofs.Order.{the-type}
 use Rattle.spacing.proofs.Laws.{no-row, no-place, all-places}
-use Rattle.tally.proofs.Notes.{none-noted}
-use Rattle.tally.proofs.Turns.{few-noted}
+use Rattle.notes.proofs.Laws.{none-noted, few-noted}
 use Rattle.tally.proofs.Told.{rows-told, all-apart}
 use Rattle.tally.proofs.rows.order.Statement.{statement}
 use Rattle.tally.proofs.rows.order.Tie as tie
@@ -56,11 +56,11 @@ module _ (w : Wire) (a b : Queue) (t : Table) (ofa ofb : Lane) (last : List Last
     noted-few Rising k n = few-noted w a b newest counts of-a of-b (n .1)
     noted-few Mixed k n = few-noted w a b newest counts of-a of-b (n .1)
 
-    module _ (long : length (t .rows) ≡ mostRows) (wide : length last ≡ mostRows) where
+    module _ (long : length (t .rows) ≡ mostRows) where
       -- where each frame may be there, the rows decide
       by-rows : queuesTest (contents t) (limitsBy ofa ofb (t .rows)) now a b ≡ true → Notes (inRecord w a b) newest counts → asked ≡ (upTo (t .count) (countsTest t ofa ofb last newest counts) && upTo (t .count) (spacedTest (contents t) (inRecord w a b)))
       unfolding rowFramesTest
-      by-rows e n = rw (all-places t a b few of-a of-b, e) (rows-told t long few (inRecord w a b) ofa ofb last wide n)
+      by-rows e n = rw (all-places t a b few of-a of-b, e) (rows-told t long few (inRecord w a b) ofa ofb last n)
 
       miscounted : (o : Order) → NotedBy w a b t ofa ofb now newest counts o → {r : Bool} → r ≡ upTo (t .count) (countsTest t ofa ofb last newest counts) → not r ≡ true → asked ≡ false
       miscounted Broken n e h = no-frame refl n
@@ -90,9 +90,6 @@ b-few c = third c .if3 .left
 
 long : (c : tie.After-note-all) → length (start c .args .t .rows) ≡ mostRows
 long c = table.places (start c .args .t) _ (start c .good .1 .1 .1 .0)
-
-wide : (c : tie.After-note-all) → length (start c .args .last) ≡ mostRows
-wide c = last-places (start c .args .last) _ (start c .good .1 .1 .1 .1 .1 .1 .0)
 
 returns : tie.Need-returns
 returns c = no-places _ _ _ _ _ _ _ _ (no-row _ _ _ (c .if1 .taken))
@@ -126,13 +123,13 @@ returns-5 : tie.Need-returns-5
 returns-5 c =
     let n = c .before .before .before .before .before in
     let s = start n in
-    miscounted (s .args .w) (s .args .a) (s .args .b) (s .args .t) (s .args .ofa) (s .args .ofb) (s .args .last) (s .args .clock) (rows-few n) (a-few n) (b-few n) _ _ (long n) (wide n) (n .note-all .result) (n .note-all .ensures) (c .before .counts-ok .ensures) (c .if4 .taken)
+    miscounted (s .args .w) (s .args .a) (s .args .b) (s .args .t) (s .args .ofa) (s .args .ofb) (s .args .last) (s .args .clock) (rows-few n) (a-few n) (b-few n) _ _ (long n) (n .note-all .result) (n .note-all .ensures) (c .before .counts-ok .ensures) (c .if4 .taken)
 
 returns-6 : tie.Need-returns-6
 returns-6 c =
     let n = c .before .before .before .before .before in
     let s = start n in
-    counted (s .args .w) (s .args .a) (s .args .b) (s .args .t) (s .args .ofa) (s .args .ofb) (s .args .last) (s .args .clock) (rows-few n) (a-few n) (b-few n) _ _ (long n) (wide n) (n .note-all .result) (n .note-all .ensures) (c .before .counts-ok .ensures) (c .if4 .left)
+    counted (s .args .w) (s .args .a) (s .args .b) (s .args .t) (s .args .ofa) (s .args .ofb) (s .args .last) (s .args .clock) (rows-few n) (a-few n) (b-few n) _ _ (long n) (n .note-all .result) (n .note-all .ensures) (c .before .counts-ok .ensures) (c .if4 .left)
 
 pub order-spec : {M : Type 1} → statement M
 order-spec =

@@ -1,0 +1,3 @@
+// Rows that join and leave a port.
+pub mod patches;
+mod tables;

@@ -1,0 +1,3 @@
+-- A row as words, and the rows whose numbers fit their fields.
+pub mod Row
+pub mod Fits
