@@ -4,7 +4,7 @@
  * what each refusal says.
  *
  * Every buffer is a pointer, not NULL, and a length, of any length, and the
- * buffers of one call do not overlap. Where a function returns anything but 0
+ * buffers of one call do not overlap. Where a function returns a refusal
  * nothing is written; otherwise bytes behind what is written keep their values.
  * A function keeps nothing between calls, so it may be called from several
  * threads at a time, on different buffers.
@@ -17,43 +17,50 @@
 
 /* The version of the bytes that this header speaks of: a record's first word. A
  * record of another version is answered ITHUMECO_BROKEN and never misread. */
-#define ITHUMECO_VERSION 1000005
+#define ITHUMECO_VERSION 1000006
 
 /* Sizes in bytes. */
-#define ITHUMECO_CALL_SIZE 64
+#define ITHUMECO_CALL_SIZE 72
 #define ITHUMECO_ANSWER_SIZE 40
-#define ITHUMECO_RECORD_SIZE 5888
+#define ITHUMECO_RECORD_SIZE 6144
 #define ITHUMECO_BOUNDS_SIZE 256
 
 /* The largest table file, in bytes. */
 #define ITHUMECO_MOST_FILE 399
 
+/* The editions of table files, by their first four letters. Where a file is read
+ * it may be of either; the one to be written is told. */
+#define ITHUMECO_AVB1 1
+#define ITHUMECO_AVB2 2
+
 /* Where a record has its clock, the credits of the two classes, and the first of
  * the 32 bounds that the port keeps, 0 at an empty number: words. Bounds behind
  * the row count, word 4, may hold anything. */
-#define ITHUMECO_CLOCK_WORD 197
-#define ITHUMECO_CREDIT_A_WORD 198
-#define ITHUMECO_CREDIT_B_WORD 199
-#define ITHUMECO_BOUNDS_WORD 699
+#define ITHUMECO_CLOCK_WORD 229
+#define ITHUMECO_CREDIT_A_WORD 230
+#define ITHUMECO_CREDIT_B_WORD 231
+#define ITHUMECO_BOUNDS_WORD 731
 
 /* The most byte-times of one advance, and the clock's last value. */
 #define ITHUMECO_MOST_ADVANCE 65535
 #define ITHUMECO_LAST_CLOCK UINT64_C(1099511627775)
 
-/* The kinds of calls: a call's first word. Of its eight words those that it does
- * not use are 0. A row has six: class (0 for A, 1 for B), payload, deadline, and
- * then 0, period, 0 or 1, sample rate, samples. */
+/* The kinds of calls: a call's first word. Of its nine words those that it does
+ * not use are 0. A row has seven: class (0 for A, 1 for B), 1 if its frames have a
+ * redundancy tag or else 0, payload, deadline, and then 0, period, 0 or 1, sample
+ * rate, samples. */
 #define ITHUMECO_OFFER 0      /* then row, payload */
 #define ITHUMECO_OFFER_BEST 1 /* then payload */
 #define ITHUMECO_ADVANCE 2    /* then n */
-#define ITHUMECO_JOIN 3       /* then number, the row's six words */
+#define ITHUMECO_JOIN 3       /* then number, the row's seven words */
 #define ITHUMECO_LEAVE 4      /* then number */
 
 /* In place of a frame's row. */
 #define ITHUMECO_BEST_EFFORT 32
 #define ITHUMECO_NO_FRAME 33
 
-/* A function returns 0, or a refusal's number + 256 * its place. */
+/* A function returns 0, or a refusal's number + 256 * its place. ithumeco_rewrite
+ * has the length of the file that it writes in the place, with the number 0. */
 #define ITHUMECO_NUMBER(code) ((code) % 256)
 #define ITHUMECO_PLACE(code) ((code) / 256)
 
@@ -67,6 +74,8 @@
 #define ITHUMECO_STATES_DEFAULT 6
 #define ITHUMECO_TRAILING 7
 #define ITHUMECO_PERIOD_AND_RATE 19
+/* a table to be written as AVB1: */
+#define ITHUMECO_TAGGED_ROW 23
 /* a table, that of a file or the one that a join or a leave would leave: */
 #define ITHUMECO_SLOPES 8
 #define ITHUMECO_SHARES 9
@@ -83,11 +92,12 @@
 #define ITHUMECO_BROKEN 18
 #define ITHUMECO_NOT_AT_REST 21
 #define ITHUMECO_NUMBER_NOT_FREE 22
-/* and a buffer: */
+/* and a buffer, or the number of an edition: */
 #define ITHUMECO_SHORTER_THAN_FILE 17
 #define ITHUMECO_NOT_WHOLE_CALLS 101
 #define ITHUMECO_UNREADABLE_CALL 102
 #define ITHUMECO_TOO_SHORT 103
+#define ITHUMECO_NO_SUCH_EDITION 104
 
 #ifdef __cplusplus
 extern "C" {
@@ -128,8 +138,10 @@ uint64_t ithumeco_call(uint8_t *record, size_t record_size,
 uint64_t ithumeco_bounds(const uint8_t *file, size_t file_size,
                          uint8_t *bounds, size_t bounds_size);
 
-/* Reads a table file and writes it again. */
-uint64_t ithumeco_rewrite(const uint8_t *file, size_t file_size,
+/* Reads a table file of either edition and writes it again in the one that is
+ * told. Returns 256 * the length of what is written, or the refusal. A table with a
+ * tagged row can't be written as AVB1. */
+uint64_t ithumeco_rewrite(const uint8_t *file, size_t file_size, uint64_t edition,
                           uint8_t *copy, size_t copy_size);
 
 #ifdef __cplusplus

@@ -19,7 +19,7 @@ use Rattle.callbytes.specs.declared.Asked.the-variants.{Offer, OfferBest
 use Rattle.callbytes.specs.Calls.{callWidth, rowStart, usedWords, callWords, CallFits, callBy, named, isReadable, callOf, usedBy, zeros, zerosFrom}
 use Rattle.callbytes.proofs.Named.{offer-named, best-named, advance-named, join-named, leave-named}
 
--- ---- a call has 8 words, and they are words if it fits
+-- ---- a call has 9 words, and they are words if it fits
 used-most : (c : Call) → length (usedWords c) ≤ callWidth
 used-most (offer row payload) = omega arith
 used-most (offerBest payload) = omega arith

@@ -16,7 +16,7 @@ use Rattle.rowbytes.specs.Fits.{RowFits}
 
 -- The words and the bytes of a call, the bytes of an answer, and the first word of a row that joins.
 abbrev pub callWidth : ℕ
-callWidth = 8
+callWidth = 9
 
 abbrev pub callSize : ℕ
 callSize = 8 * callWidth
@@ -35,7 +35,7 @@ usedWords (advance n) = 2 ∷ n ∷ []
 usedWords (join number r) = 3 ∷ number ∷ rowWords r
 usedWords (leave number) = 4 ∷ number ∷ []
 
--- A call: 8 words. Those that it does not use are 0.
+-- A call: 9 words. Those that it does not use are 0.
 unfoldable pub callWords : Call → List ℕ
 callWords c = usedWords c ++ replicate (callWidth - length (usedWords c)) 0
 
@@ -91,7 +91,7 @@ zeros s k (suc n) = eqb (wordAt s k) 0 && zeros s (k + 1) n
 abbrev pub zerosFrom : List ℕ → ℕ → Bool
 zerosFrom s k = zeros s k (callWidth - k)
 
--- What bytes ask for: 8 words that name a call, with zeros behind those that it uses.
+-- What bytes ask for: 9 words that name a call, with zeros behind those that it uses.
 unfoldable pub readCall : List ℕ → Asked
 readCall s = cond (eqb (length s) callSize && zerosFrom s (usedBy (named s))) (named s) Unreadable
 

@@ -12,7 +12,7 @@ use table::Row;
 use words::words::word;
 
 // The words and the bytes of a call, and the first word of a row that joins.
-const CALL_WIDTH: usize = 8;
+const CALL_WIDTH: usize = 9;
 
 pub const CALL_SIZE: usize = 8 * CALL_WIDTH;
 
@@ -59,8 +59,8 @@ fn row_end(row: Row) -> usize
 {
     let pace = row.pace;
     match pace {
-        Pace::Period(_) => 7,
-        Pace::Rated(_, _) => 8,
+        Pace::Period(_) => 8,
+        Pace::Rated(_, _) => 9,
     }
 }
 

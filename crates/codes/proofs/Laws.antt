@@ -19,7 +19,7 @@ use Rattle.tablefile.specs.declared.Reading.{Reading}
 use Rattle.tablefile.specs.declared.Reading.the-variants as readings
 use Rattle.tablefile.specs.Reading as files
 use Rattle.tablefile.specs.Reading.{readFile, Reads}
-use Rattle.codes.specs.Codes.{codeOf, fileCheck}
+use Rattle.codes.specs.Codes.{codeOf, lengthCode, fileCheck}
 
 -- no refusal has the code 0
 fault-code : (f : Fault) (p : ℕ) → codeOf (refused (files.numberOf f) p) ≡ 0 → ⊥
@@ -65,6 +65,11 @@ pub first-code : (x y : Outcome) {r : ℕ} → r ≡ codeOf x → (r ≡ 0 → �
 first-code accepted y e h = absurd (h e)
 first-code (refused n p) y e h = e
 
+-- a refusal's code is the same where a length would be told
+pub refusal-told : (o : Outcome) (n : ℕ) {r : ℕ} → r ≡ codeOf o → (r ≡ 0 → ⊥) → r ≡ lengthCode o n
+refusal-told accepted n e h = absurd (h e)
+refusal-told (refused k p) n e h = e
+
 -- at a code that is not 0 a buffer is as it was
 pub kept : (o : Outcome) (new old : List ℕ) {r : ℕ} → r ≡ codeOf o → (r ≡ 0 → ⊥) → old ≡ unlessRefused o new old
 kept accepted new old e h = absurd (h e)
@@ -76,6 +81,6 @@ unfolding fileCheck
 opened-accepted file e = first-both (readFile file .outcome) (opening (contents (readFile file .table))) e
 
 -- the answers of reading and of opening are the file's check
-pub checked : (file : List ℕ) (l : Loaded) → Reads file l → (v : Verdict) → tables.outcomeOf v ≡ opening (contents (l .table)) → first (files.outcomeOf (l .answer) ∷ tables.outcomeOf v ∷ []) ≡ fileCheck file
+pub checked : (file : List ℕ) (l : Loaded) → Reads (readFile file) l → (v : Verdict) → tables.outcomeOf v ≡ opening (contents (l .table)) → first (files.outcomeOf (l .answer) ∷ tables.outcomeOf v ∷ []) ≡ fileCheck file
 unfolding fileCheck
 checked file l read v e = rw (read .answer, e, read .table) refl

@@ -14,6 +14,11 @@ abbrev pub codeOf : Outcome → ℕ
 codeOf accepted = 0
 codeOf (refused number place) = number + 256 * min place mostPlace
 
+-- Of a call that writes a file: where that is done, 256 times the file's length.
+abbrev pub lengthCode : Outcome → ℕ → ℕ
+lengthCode accepted length = 256 * min length mostPlace
+lengthCode (refused number place) length = codeOf (refused number place)
+
 -- A table file that is opened: the file's refusals, then opening's.
 unfoldable pub fileCheck : List ℕ → Outcome
 fileCheck file = first (readFile file .outcome ∷ opening (contents (readFile file .table)) ∷ [])

@@ -5,7 +5,7 @@ ghost use mathlib.Core.Path.{_≡_};
 ghost use Rattle.table.specs.Checks as tables;
 ghost use Rattle.tablefile.specs.Reading as files;
 ghost use Rattle.tablefile.specs.Writing as writes;
-ghost use Rattle.codes.specs.Codes.{mostPlace, codeOf};
+ghost use Rattle.codes.specs.Codes.{mostPlace, codeOf, lengthCode};
 use table::Verdict;
 use tablefile::Reading;
 use tablefile::Writing;
@@ -49,13 +49,14 @@ fn of_verdict(verdict: Verdict) -> u64
     }
 }
 
-// What writing a file answers.
+// What writing a file answers: the refusal, or the file's length in a refusal's place.
 pub fn of_writing(answer: Writing) -> u64
-    ensures { λ r. ⌜ r ≡ codeOf (writes.outcomeOf answer) ⌝ }
+    ensures { λ r. ⌜ r ≡ lengthCode (writes.outcomeOf answer) (writes.lengthOf answer) ⌝ }
 {
     match answer {
-        Writing::Written(_) => 0,
+        Writing::Written(size) => code(0, size),
         Writing::TooShort => code(17, 0),
+        Writing::Tagged(row) => code(23, row),
         Writing::Refused(r) => code(table::numbers::number(r) as u8, table::numbers::place(r)),
     }
 }

@@ -1,4 +1,4 @@
--- Document 01's facts (a) to (g), those of rows that name a sample rate, those of deadlines longer than the period (C-12), of the gap behind a report (C-13), and of rows that join and leave (C-15), by computing the definitions.
+-- Document 01's facts (a) to (g), those of rows that name a sample rate, those of deadlines longer than the period (C-12), of the gap behind a report (C-13), of rows that join and leave (C-15), and of tagged rows (C-16), by computing the definitions.
 use Prim.Native.Nat.{ℕ, _+_, _-_, _≤_}
 use mathlib.Core.Bool.{false}
 use mathlib.Core.List.{[], _∷_}
@@ -6,7 +6,7 @@ use mathlib.Core.Path.{_≡_, refl, _∙_, ap}
 use native.Mathlib.Omega.{arith}
 use lib.IntN.{pos, negsuc}
 use borrow.Author.Tests.{le-ltb}
-use Rattle.table.specs.Wire.{ceilDiv, wireSize, sizeFor, sizeOf, paced, periodOf, shareOf}
+use Rattle.table.specs.Wire.{ceilDiv, wireSize, taggedSize, sizeFor, sizeOf, paced, periodOf, shareOf}
 use Rattle.table.specs.Rows.{isThere, rowsOf, inUse, countRight, rowsWith, trimmed, rowsWithout, withRow, withoutRow}
 use Rattle.table.specs.Checks.{accepted, passing}
 use Rattle.table.specs.Ranges.{countOk, headerOk, paceOk, rowOk, ranged}
@@ -22,9 +22,9 @@ use Rattle.machine.specs.Record.{tableSound, countSound, boundsSound, clockSoun
 use Rattle.machine.specs.Calls.{offer, advance, leave, tooSoon, after, answer, offerCheck, bestCheck, advanceCheck, isOpen, joinCheck, quiet, leaveCheck, takeRow, takeBest, joinRow, leaveRow}
 use Rattle.machine.specs.Run.{clockOf, tableOf, lastTaken}
 use Rattle.machine.proofs.EveryList.{every-list-ran}
-use Rattle.tablefile.specs.Layout.{valueAt, bytesOf, defaultPayload, defaultPeriod, defaultDeadline, bitOf}
-use Rattle.tablefile.specs.Reading.{opens, header, pacedFrom, rowFrom, row, rowsChecks, rowsFrom, rowsEnd, readFile}
-use Rattle.tablefile.specs.Writing.{mapByte, rowBytes, rowsBytes, headerBytes, fileOf}
+use Rattle.tablefile.specs.Layout.{valueAt, bytesOf, defaultPayload, defaultPeriod, defaultDeadline, bitOf, allows, taggedOf}
+use Rattle.tablefile.specs.Reading.{opens, header, pacedFrom, rowFrom, row, rowsChecks, rowsFrom, rowsEnd, readAs, editionOf, readFile}
+use Rattle.tablefile.specs.Writing.{mapByte, rowBytes, rowsBytes, headerBytes, fileOf, writable, writeCheck}
 use Rattle.facts.specs.Specimen.{specimen, sampled, sampledTable, often}
 use Rattle.facts.specs.Facts.{played, port, inG, almostQuiet, anew, soon, twice, NeverEarly, four, almost, Facts}
 
@@ -79,7 +79,7 @@ not-soon : (l : Instant) (now instant gap : ℕ) → l ≡ at instant → now �
 not-soon l now instant gap e f h = rw e (le-ltb (now - instant) 17006 (omega arith))
 
 accepts : opening sampled ≡ accepted
-unfolding ceilDiv wireSize sizeFor sizeOf paced periodOf shareOf isThere rowsOf inUse passing countOk headerOk paceOk rowOk ranged sumOver maxOver members largest total shares bestSize blocking residenceIn residence bound mostOf mostIn usedOk slopesOk sharesOk timely roomOk opening
+unfolding ceilDiv wireSize taggedSize sizeFor sizeOf paced periodOf shareOf isThere rowsOf inUse passing countOk headerOk paceOk rowOk ranged sumOver maxOver members largest total shares bestSize blocking residenceIn residence bound mostOf mostIn usedOk slopesOk sharesOk timely roomOk opening
 accepts = refl
 
 never-early : NeverEarly
@@ -90,7 +90,7 @@ never-early cs payload instant gap a before h own few last long now =
     d .space 0 payload a before h (there-used t 0 (rw own refl)) (rw own few) (rw own (not-soon (lastTaken 0 before) (clockOf before) instant gap last now long))
 
 pub facts : Facts
-unfolding ceilDiv wireSize sizeFor sizeOf paced periodOf shareOf isThere rowsOf inUse passing countOk headerOk paceOk rowOk ranged sumOver maxOver members largest total shares bestSize blocking residenceIn residence bound mostOf mostIn boundsOf bounds usedOk slopesOk sharesOk timely roomOk opening rangedAround standing countRight rowsWith trimmed rowsWithout withRow withoutRow instantsFor fresh owner start reportedIn byteTime endsIn progress tableSound countSound boundsSound clockSound creditSound bestSound namesSound queuesSound sizesSound leftSound framesTaken rowsTaken takenOf heldSound apartSound latestSound ageSound sound offerCheck bestCheck advanceCheck isOpen joinCheck quiet leaveCheck takeRow takeBest joinRow leaveRow valueAt bytesOf defaultPayload defaultPeriod defaultDeadline bitOf opens header pacedFrom rowFrom row rowsChecks rowsFrom rowsEnd readFile mapByte rowBytes rowsBytes headerBytes fileOf
+unfolding ceilDiv wireSize taggedSize sizeFor sizeOf paced periodOf shareOf isThere rowsOf inUse passing countOk headerOk paceOk rowOk ranged sumOver maxOver members largest total shares bestSize blocking residenceIn residence bound mostOf mostIn boundsOf bounds usedOk slopesOk sharesOk timely roomOk opening rangedAround standing countRight rowsWith trimmed rowsWithout withRow withoutRow instantsFor fresh owner start reportedIn byteTime endsIn progress tableSound countSound boundsSound clockSound creditSound bestSound namesSound queuesSound sizesSound leftSound framesTaken rowsTaken takenOf heldSound apartSound latestSound ageSound sound offerCheck bestCheck advanceCheck isOpen joinCheck quiet leaveCheck takeRow takeBest joinRow leaveRow valueAt bytesOf defaultPayload defaultPeriod defaultDeadline bitOf allows taggedOf opens header pacedFrom rowFrom row rowsChecks rowsFrom rowsEnd readAs editionOf readFile mapByte rowBytes rowsBytes headerBytes fileOf writable writeCheck
 facts =
     let g : port inG ≡ stateG = refl in
     let o : played (fresh sampled) soon ≡ stateAt 17005 0 = refl in
@@ -193,4 +193,19 @@ facts =
       leave-none = refl;
       again-early = ap (λ s. answer (after s (advance 1)) (offer 0 58)) q;
       again-taken = ap (λ s. answer (played (after s (advance 1)) anew) (offer 0 58)) q;
+      tag-sizes = refl;
+      tag-table = refl;
+      tag-reads = refl;
+      tag-writes = refl;
+      tag-bounds = refl;
+      tag-shares = refl;
+      tag-accepts = refl;
+      tag-report = refl;
+      tag-first = refl;
+      tag-letters = refl;
+      tag-bits = refl;
+      tag-default = refl;
+      tag-refuses = refl;
+      tag-lowest = refl;
+      tag-short = refl;
     }

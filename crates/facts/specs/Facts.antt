@@ -1,14 +1,14 @@
--- One table of facts: what the definitions themselves give for the specimen, for the same with two rows that name a sample rate, for C-12's tables, for C-13, and for rows that join and leave (C-15). The
+-- One table of facts: what the definitions themselves give for the specimen, for the same with two rows that name a sample rate, for C-12's tables, for C-13, for rows that join and leave (C-15), and for tagged rows (C-16). The
 -- figures are C-13's.
 use Prim.Native.Nat.{ℕ, _+_, _≤_}
 use mathlib.Core.List.{List, [], _∷_, _++_, map}
 use mathlib.Core.Bool.{true, false}
 use mathlib.Core.Path.{_≡_}
 use lib.IntN.{pos, negsuc}
-use lib.ListN.{replicate}
+use lib.ListN.{set, replicate}
 use Rattle.table.specs.declared.Class.the-variants.{A, B}
 use Rattle.table.specs.declared.Pace.the-variants.{Rated}
-use Rattle.table.specs.Wire.{wireSize, sizeOf, paced, periodOf, shareOf}
+use Rattle.table.specs.Wire.{wireSize, sizeFor, sizeOf, paced, periodOf, shareOf}
 use Rattle.table.specs.Rows.{noRow, contents, rowAt}
 use Rattle.table.specs.Checks.{accepted, refused}
 use Rattle.table.specs.Ranges.{paceOk}
@@ -20,9 +20,10 @@ use Rattle.machine.specs.State.{never, at, State, fresh}
 use Rattle.machine.specs.Record.{takenOf, sound}
 use Rattle.machine.specs.Calls.{Call, offer, offerBest, advance, join, leave, Answer, taken, passed, denied, after, answer}
 use Rattle.machine.specs.Run.{Event, event, clockOf, tableOf, answered, Happened, lastTaken}
+use Rattle.tablefile.specs.declared.Edition.the-variants.{Avb1, Avb2}
 use Rattle.tablefile.specs.Reading.{readFile}
-use Rattle.tablefile.specs.Writing.{fileOf}
-use Rattle.facts.specs.Specimen.{rowA, rowB, rowLong, specimen, specimenWith, specimenTable, specimenBytes, sampled, sampledTable, sampledBytes, oftenRow, oftenWith, often, oftenTable, oftenBytes, seldom, crowded, small}
+use Rattle.tablefile.specs.Writing.{fileOf, writeCheck}
+use Rattle.facts.specs.Specimen.{rowA, rowB, rowLong, specimen, specimenWith, specimenTable, specimenBytes, sampled, sampledTable, sampledBytes, oftenRow, oftenWith, often, oftenTable, oftenBytes, seldom, crowded, small, taggedRow, tagged, taggedTable, taggedBytes, taggedLater}
 
 -- The port after calls, the first one first.
 abbrev pub played : State → List Call → State
@@ -110,8 +111,8 @@ pub record Facts : Type 0 where
   -- the table record says what the specimen says
   pub table : contents specimenTable ≡ specimen
   -- the 28 bytes are read as that record, and what the specimen says is written as the 28 bytes
-  pub reads : readFile specimenBytes ≡ record { outcome = accepted; table = specimenTable }
-  pub writes : fileOf specimen ≡ specimenBytes
+  pub reads : readFile specimenBytes ≡ record { outcome = accepted; edition = Avb1; table = specimenTable }
+  pub writes : fileOf Avb1 specimen ≡ specimenBytes
   -- (a) the three bounds; HA and HB; the sheet's wire sizes
   pub a : bounds specimen ≡ 3730 ∷ 3130 ∷ 4844 ∷ replicate 29 0
   pub a-blocking : blocking A specimen ≡ 1542
@@ -142,8 +143,8 @@ pub record Facts : Type 0 where
   pub rate-shortest : paced (Rated 1 200000) ≡ 625
   pub rate-longest : paced (Rated 255 1000) ≡ 31875000
   pub rate-range : (samples rate : ℕ) → paceOk (Rated samples rate) ≡ true → (625 ≤ paced (Rated samples rate)) × (paced (Rated samples rate) ≤ 31875000)
-  pub rate-reads : readFile sampledBytes ≡ record { outcome = accepted; table = sampledTable }
-  pub rate-writes : fileOf sampled ≡ sampledBytes
+  pub rate-reads : readFile sampledBytes ≡ record { outcome = accepted; edition = Avb1; table = sampledTable }
+  pub rate-writes : fileOf Avb1 sampled ≡ sampledBytes
   pub rate-periods : map periodOf (sampled .rows) ≡ 17006 ∷ 15625 ∷ 31250 ∷ []
   pub rate-bounds : bounds sampled ≡ bounds specimen
   pub rate-accepts : opening sampled ≡ accepted
@@ -154,8 +155,8 @@ pub record Facts : Type 0 where
   pub turn-always : NeverEarly
   -- C-12: a deadline of four periods, read and written; the table is accepted, its bound is above three periods and its row may have four frames in the port
   pub long-table : contents oftenTable ≡ often
-  pub long-reads : readFile oftenBytes ≡ record { outcome = accepted; table = oftenTable }
-  pub long-writes : fileOf often ≡ oftenBytes
+  pub long-reads : readFile oftenBytes ≡ record { outcome = accepted; edition = Avb1; table = oftenTable }
+  pub long-writes : fileOf Avb1 often ≡ oftenBytes
   pub long-bounds : bounds often ≡ 462 ∷ replicate 31 0
   pub long-residence : residence often oftenRow ≡ 474
   pub long-accepts : opening often ≡ accepted
@@ -226,3 +227,24 @@ pub record Facts : Type 0 where
   -- 400 byte-times after its last frame row 0 is early; a row that has joined at its number has no last frame
   pub again-early : answer (after (port almostQuiet) (advance 1)) (offer 0 58) ≡ denied 13 0
   pub again-taken : answer (played (after (port almostQuiet) (advance 1)) anew) (offer 0 58) ≡ taken
+  -- C-16: the wire sizes of a tagged row's frames
+  pub tag-sizes : map (sizeFor taggedRow) (36 ∷ 37 ∷ 58 ∷ 1500 ∷ []) ≡ 84 ∷ 85 ∷ 106 ∷ 1548 ∷ []
+  -- an AVB2 file of two tagged rows, read and written; its bounds, and that it is accepted
+  pub tag-table : contents taggedTable ≡ tagged
+  pub tag-reads : readFile taggedBytes ≡ record { outcome = accepted; edition = Avb2; table = taggedTable }
+  pub tag-writes : fileOf Avb2 tagged ≡ taggedBytes
+  pub tag-bounds : bounds tagged ≡ 1954 ∷ 2570 ∷ replicate 30 0
+  pub tag-shares : map shareOf (tagged .rows) ≡ 6784 ∷ 2688 ∷ []
+  pub tag-accepts : opening tagged ≡ accepted
+  -- a frame that is offered to it has its wire size
+  pub tag-report : answer (played (fresh tagged) (offer 0 58 ∷ [])) (advance 5000) ≡ passed 94 (Reported (record { source = 0; size = 106; taken = 0 }))
+  -- behind the letters of AVB1 the same bytes are refused with 4, since bit 4 stands, and behind other letters with 2; bits 5 and 6 are 4 in AVB2 too
+  pub tag-first : readFile (set taggedBytes 3 0x31) .outcome ≡ refused 4 15
+  pub tag-letters : map (λ l. readFile (set taggedBytes 3 l) .outcome) (0x30 ∷ 0x33 ∷ []) ≡ refused 2 0 ∷ refused 2 0 ∷ []
+  pub tag-bits : map (λ m. readFile (set taggedBytes 15 m) .outcome) (0x35 ∷ 0x55 ∷ []) ≡ refused 4 15 ∷ refused 4 15 ∷ []
+  -- where row 0 states a payload of 36 it states its default; 42 is a value
+  pub tag-default : map (λ p. readFile (set taggedBytes 17 p) .outcome) (36 ∷ 42 ∷ []) ≡ refused 6 16 ∷ accepted ∷ []
+  -- 23 comes before 17, its place is the lowest tagged row, and AVB2 has none
+  pub tag-refuses : writeCheck Avb1 tagged [] ≡ refused 23 0
+  pub tag-lowest : writeCheck Avb1 taggedLater [] ≡ refused 23 1
+  pub tag-short : writeCheck Avb2 tagged [] ≡ refused 17 0

@@ -4,12 +4,13 @@ ghost use mathlib.Core.Path.{_≡_};
 ghost use lib.ListN.{length};
 ghost use Rattle.table.specs.Checks.{accepted, over};
 ghost use Rattle.words.specs.Words.{flat, wordBytes};
-ghost use Rattle.filebytes.specs.Files.{boundsSize, BoundsWritten, Rewritten};
+ghost use Rattle.filebytes.specs.Files.{boundsSize, BoundsWritten, editionBy, Rewritten};
 use codes::code;
 use codes::of_file;
 use codes::of_reading;
 use codes::of_writing;
 use table::ROWS;
+use tablefile::Edition;
 use words::words::put_word;
 
 // The bytes of a word for each row.
@@ -48,10 +49,26 @@ pub fn bounds(file: &[u8], out: &mut [u8]) -> u64
     c
 }
 
-// A table file, read and written again. At a refusal no byte is written.
-pub fn rewrite(file: &[u8], out: &mut [u8]) -> u64
-    ensures { λ r. ⌜ Rewritten (now (file .entry)) (now (out .entry)) (now (out .exit)) r ⌝ }
+// The editions by number: 2 is AVB2, and any other stands for AVB1.
+fn edition_by(number: u64) -> Edition
+    ensures { λ r. ⌜ r ≡ editionBy number ⌝ }
 {
+    if number == 2 {
+        return Edition::Avb2;
+    }
+    Edition::Avb1
+}
+
+// A table file of either edition, read, and written again in the edition of a number. At a refusal no byte is written.
+pub fn rewrite(file: &[u8], number: u64, out: &mut [u8]) -> u64
+    ensures { λ r. ⌜ Rewritten (now (file .entry)) number (now (out .entry)) (now (out .exit)) r ⌝ }
+{
+    if number < 1 {
+        return code(104, 0);
+    }
+    if 2 < number {
+        return code(104, 0);
+    }
     let l = tableread::read::read(file);
     let answer = l.answer;
     let c = of_reading(answer);
@@ -59,6 +76,7 @@ pub fn rewrite(file: &[u8], out: &mut [u8]) -> u64
         return c;
     }
     let t = l.table;
-    let w = tablewrite::write::write(t, out);
+    let edition = edition_by(number);
+    let w = tablewrite::write::write(edition, t, out);
     of_writing(w)
 }

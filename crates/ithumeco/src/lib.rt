@@ -35,10 +35,10 @@ pub extern "C" fn ithumeco_bounds(file: &[u8], out: &mut [u8]) -> u64
     filebytes::files::bounds(file, out)
 }
 
-// A table file, read and written again. At a refusal no byte is written.
+// A table file, read, and written again in the edition of a number. At a refusal no byte is written.
 #[no_mangle]
-pub extern "C" fn ithumeco_rewrite(file: &[u8], out: &mut [u8]) -> u64
-    ensures { λ r. ⌜ Rewritten (now (file .entry)) (now (out .entry)) (now (out .exit)) r ⌝ }
+pub extern "C" fn ithumeco_rewrite(file: &[u8], edition: u64, out: &mut [u8]) -> u64
+    ensures { λ r. ⌜ Rewritten (now (file .entry)) edition (now (out .entry)) (now (out .exit)) r ⌝ }
 {
-    filebytes::files::rewrite(file, out)
+    filebytes::files::rewrite(file, edition, out)
 }

@@ -32,12 +32,13 @@ fn empty(header: Header) -> Table
 }
 
 // A table with one more row. Of the rows that find no place only the first is counted.
-fn push(t: Table, class: Class, payload: u16, pace: Pace, deadline: u32) -> Table
-    ensures { λ r. ⌜ Pushed t (record { class = class; payload = payload; pace = pace; deadline = deadline }) r ⌝ }
+fn push(t: Table, class: Class, tagged: bool, payload: u16, pace: Pace, deadline: u32) -> Table
+    ensures { λ r. ⌜ Pushed t (record { class = class; tagged = tagged; payload = payload; pace = pace; deadline = deadline }) r ⌝ }
 {
     let n = t.count;
     let row = Row {
         class,
+        tagged,
         payload,
         pace,
         deadline,
@@ -68,7 +69,14 @@ pub fn bounds(header: Header, rows: &[Row]) -> Sheet
     let mut i: usize = 0;
     while i < n {
         let row = &rows[i];
-        t = push(t, row.class, row.payload, row.pace, row.deadline);
+        t = push(
+            t,
+            row.class,
+            row.tagged,
+            row.payload,
+            row.pace,
+            row.deadline,
+        );
         i += 1;
     }
     planner::bounds(t)

@@ -286,7 +286,7 @@ module _ (t : Contents) (ok : IsAccepted t) where
       let n = max (D * bestSize t) (idle A t * largest B t) in
       rw (add-mul (largest A t)) (omega (arith, table.ceil-covers n (send A t) (omega arith)))
 
-  -- HA is at most 1542, and HB at most that and D × 1542 / 250,000
+  -- HA is at most 1548, and HB at most that and D × 1548 / 250,000
   pub blocking-most : (c : Class) → blocking c t ≤ 5 * mostSize
   unfolding blocking
   blocking-most A = omega (arith, largest-most B, best-most)

@@ -40,7 +40,7 @@ pace-owned (Period p) vs e = e .1 .1 .1 .1 .0 .1
 pace-owned (Rated samples rate) vs e = (e .1 .1 .1 .1 .1 .0 .1, e .1 .1 .1 .1 .0 .1)
 
 row-owned : (r : Row) (vs : List Val) → Is (struct.row row.the-type) r vs → RowFits r
-row-owned r vs e = record { payload = e .1 .1 .1 .0 .1; pace = pace-owned (r .pace) _ (e .1 .1 .1 .1 .0); deadline = e .1 .1 .1 .1 .1 .0 .1 }
+row-owned r vs e = record { payload = e .1 .1 .1 .1 .0 .1; pace = pace-owned (r .pace) _ (e .1 .1 .1 .1 .1 .0); deadline = e .1 .1 .1 .1 .1 .1 .0 .1 }
 
 pub frame-owned : (x : Frame) (vs : List Val) → Is (struct.row frame.the-type) x vs → FrameFits x
 frame-owned x vs e = record { source = e .1 .1 .0 .1; size = e .1 .1 .1 .0 .1; taken = e .1 .1 .1 .1 .0 .1 }

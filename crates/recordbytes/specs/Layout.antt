@@ -1,14 +1,14 @@
--- Where the parts of a port record stand: 736 words, each at its place.
+-- Where the parts of a port record stand: 768 words, each at its place.
 --   0            the version
 --   1 to 4       idle slope of A, of B, best-effort payload, row count
---   5 to 196     32 rows: class (0 A, 1 B), payload, deadline, pace: 0 and the period; or 1, the rate and the samples
---   197 to 199   clock, credit of A, of B (two's complement)
---   200 to 392   queue of A: count, 64 frames: source, size, instant taken
---   393 to 585   queue of B
---   586 to 634   best-effort queue: count, 16 frames
---   635 to 698   32 last instants: mark (1 if there is one, else 0), instant
---   699 to 730   32 bounds
---   731 to 735   wire: 0 when free; 1, the frame and its bytes left (12 or fewer: it has been reported)
+--   5 to 228     32 rows: class (0 A, 1 B), tag (1 if its frames carry one, else 0), payload, deadline, pace: 0 and the period; or 1, the rate and the samples
+--   229 to 231   clock, credit of A, of B (two's complement)
+--   232 to 424   queue of A: count, 64 frames: source, size, instant taken
+--   425 to 617   queue of B
+--   618 to 666   best-effort queue: count, 16 frames
+--   667 to 730   32 last instants: mark (1 if there is one, else 0), instant
+--   731 to 762   32 bounds
+--   763 to 767   wire: 0 when free; 1, the frame and its bytes left (12 or fewer: it has been reported)
 use Prim.Native.Nat.{ℕ, _+_, _*_}
 use Rattle.table.specs.Limits.{mostRows}
 use Rattle.machine.specs.Limits.{classPlaces, bestPlaces}
@@ -16,7 +16,7 @@ use Rattle.rowbytes.specs.Row.{rowWidth}
 
 -- The version, one for each layout and for each meaning of its words: above every idle slope, with which records began before they had one.
 abbrev pub version : ℕ
-version = 1000005
+version = 1000006
 
 -- The words of the header, the clock with the credits, a frame, an instant, a bound and the wire. A queue has a count before its frames.
 abbrev pub headWidth : ℕ

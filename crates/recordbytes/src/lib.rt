@@ -1,7 +1,7 @@
 // A port record as bytes: where its words stand, and what bytes are read as. specs/Layout.antt has the same numbers.
 
 // The version of the layout and of what its words say.
-pub const VERSION: u64 = 1_000_005;
+pub const VERSION: u64 = 1_000_006;
 
 // The words of the header, the clock with the credits, a frame, an instant, a bound and the wire. A queue has a count before its frames.
 pub const HEAD_WIDTH: usize = 5;

@@ -1,4 +1,4 @@
--- A list of calls replayed on the port of a table file: 64 bytes a call, 40 bytes an answer.
+-- A list of calls replayed on the port of a table file: 72 bytes a call, 40 bytes an answer.
 use Prim.Native.Nat.{ℕ, zero, suc, _*_, _/_, _%_}
 use mathlib.Core.Bool.{Bool, cond}
 use mathlib.Core.List.{List, [], _∷_, _++_}

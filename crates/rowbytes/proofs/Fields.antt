@@ -1,5 +1,5 @@
 -- One field, pace or row: its words give it back, pass the test, and are those of what the test lets pass.
-use Prim.Native.Nat.{ℕ, _+_, _-_, _%_, _≤_, _<_, _^_}
+use Prim.Native.Nat.{ℕ, zero, suc, _+_, _-_, _%_, _≤_, _<_, _^_}
 use mathlib.Core.Bool.{Bool, true, false, cond, _&&_}
 use mathlib.Core.List.{List}
 use mathlib.Core.Path.{_≡_, refl, sym}
@@ -8,7 +8,7 @@ use native.Mathlib.Omega.{arith}
 use lib.Dec.{leb, eqb}
 use lib.ListN.{length}
 use lib.Pow.{pow-pos}
-use borrow.Author.Tests.{le-leb, leb-true, eqb-true, eqb-false}
+use borrow.Author.Tests.{le-leb, leb-true, eqb-true}
 use Rattle.table.specs.declared.Class.{Class}
 use Rattle.table.specs.declared.Class.the-variants.{A, B}
 use Rattle.table.specs.declared.Pace.{Pace}
@@ -17,7 +17,7 @@ use Rattle.table.specs.declared.Row.{Row}
 use Rattle.table.proofs.Laws.{and-true}
 use Rattle.words.specs.Words.{Every, Word, wordAt}
 use Rattle.words.proofs.Laws.{Held}
-use Rattle.rowbytes.specs.Row.{paceWidth, rowWidth, classWord, paceWords, rowWords, u8Of, u32Of, classOf, paceAt, rowAt, fitsU8, fitsU16, fitsU32, fitsMark, paceFits, rowFits}
+use Rattle.rowbytes.specs.Row.{paceWidth, rowWidth, classWord, tagWord, paceWords, rowWords, u8Of, u32Of, classOf, taggedOf, paceAt, rowAt, fitsU8, fitsU16, fitsU32, fitsMark, paceFits, rowFits}
 use Rattle.rowbytes.specs.Fits.{PaceFits, RowFits}
 
 pub both : {x y : Bool} → x ≡ true → y ≡ true → x && y ≡ true
@@ -38,16 +38,28 @@ class-fits : (c : Class) {w : ℕ} → w ≡ classWord c → fitsMark w ≡ true
 class-fits A e = rw e refl
 class-fits B e = rw e refl
 
--- ---- a word that passes is the word of the field that it gives
+tag-back : (b : Bool) {w : ℕ} → w ≡ tagWord b → taggedOf w ≡ b
+tag-back true e = rw e refl
+tag-back false e = rw e refl
+
+tag-fits : (b : Bool) {w : ℕ} → w ≡ tagWord b → fitsMark w ≡ true
+tag-fits true e = rw e refl
+tag-fits false e = rw e refl
+
+-- ---- a word that passes is the word of the field that it gives; a mark that passes is 0 or 1
 pub bits-same : (n w : ℕ) → leb w (2 ^ n - 1) ≡ true → w ≡ w % 2 ^ n
 bits-same n w e = sym (mod-eq-of-lt (omega (arith, leb-true w (2 ^ n - 1) e, pow-pos n)))
 
+by-mark : (P : ℕ → Type 0) → P 0 → P 1 → (w : ℕ) → fitsMark w ≡ true → P w
+by-mark P none one zero e = none
+by-mark P none one (suc zero) e = one
+by-mark P none one (suc (suc w)) e = absurd (omega (arith, leb-true (suc (suc w)) 1 e))
+
 class-same : (w : ℕ) → fitsMark w ≡ true → w ≡ classWord (classOf w)
-class-same w e = go (eqb w 0) refl
-  where
-    go : (b : Bool) → eqb w 0 ≡ b → w ≡ classWord (cond b A B)
-    go true z = eqb-true w 0 z
-    go false z = omega (arith, leb-true w 1 e, eqb-false w 0 z)
+class-same = by-mark (λ w. w ≡ classWord (classOf w)) refl refl
+
+tag-same : (w : ℕ) → fitsMark w ≡ true → w ≡ tagWord (taggedOf w)
+tag-same = by-mark (λ w. w ≡ tagWord (taggedOf w)) refl refl
 
 pub bits-small : (n w : ℕ) → w % 2 ^ n < 2 ^ n
 bits-small n w = mod-lt w (pow-pos n)
@@ -60,20 +72,23 @@ pace-wide (Rated samples rate) = omega arith
 pub row-wide : (r : Row) → length (rowWords r) ≤ rowWidth
 row-wide r = omega (arith, pace-wide (r .pace))
 
+-- ---- the places of a word's neighbours
+second-place : (k : ℕ) → k + 1 + 1 ≡ k + 2
+second-place k = omega arith
+
+third-place : (k : ℕ) → k + 2 + 1 ≡ k + 3
+third-place k = omega arith
+
+fourth-place : (k : ℕ) → k + 3 + 1 ≡ k + 4
+fourth-place k = omega arith
+
 -- ---- a pace and a row, in bytes s
 module _ (s : List ℕ) where
-  -- the place of a word's second neighbour, and what stands from the third on
   pub second : (k w : ℕ) → wordAt s (k + 1 + 1) ≡ w → wordAt s (k + 2) ≡ w
-  second k w h = let e : k + 1 + 1 ≡ k + 2 = omega arith in rw e at h
-
-  from-third : (k : ℕ) (ws : List ℕ) → Held s (k + 1 + 1 + 1) ws → Held s (k + 3) ws
-  from-third k ws h = let e : k + 1 + 1 + 1 ≡ k + 3 = omega arith in rw e at h
+  second k w h = rw (second-place k) at h
 
   pub to-second : (k w : ℕ) → wordAt s (k + 2) ≡ w → wordAt s (k + 1 + 1) ≡ w
-  to-second k w h = let e : k + 1 + 1 ≡ k + 2 = omega arith in rw e h
-
-  to-third : (k : ℕ) (ws : List ℕ) → Held s (k + 3) ws → Held s (k + 1 + 1 + 1) ws
-  to-third k ws h = let e : k + 1 + 1 + 1 ≡ k + 3 = omega arith in rw e h
+  to-second k w h = rw (second-place k) h
 
   -- a pace
   pace-words : (p : Pace) → PaceFits p → Every Word (paceWords p)
@@ -112,33 +127,64 @@ module _ (s : List ℕ) where
 
   -- a row
   pub row-words : (r : Row) → RowFits r → Every Word (rowWords r)
-  row-words r f = (class-word (r .class), (omega (arith, f .payload), (omega (arith, f .deadline), pace-words (r .pace) (f .pace))))
+  row-words r f = (class-word (r .class), (tag-word (r .tagged), (omega (arith, f .payload), (omega (arith, f .deadline), pace-words (r .pace) (f .pace)))))
     where
       class-word : (c : Class) → Word (classWord c)
       class-word A = omega arith
       class-word B = omega arith
 
+      tag-word : (b : Bool) → Word (tagWord b)
+      tag-word true = omega arith
+      tag-word false = omega arith
+
+  -- a row's words, by their places
+  record Stands (r : Row) (k : ℕ) : Type 0 where
+    class : wordAt s k ≡ classWord (r .class)
+    tag : wordAt s (k + 1) ≡ tagWord (r .tagged)
+    payload : wordAt s (k + 2) ≡ r .payload
+    deadline : wordAt s (k + 3) ≡ r .deadline
+    pace : Held s (k + 4) (paceWords (r .pace))
+
+  stands : (r : Row) (k : ℕ) → Held s k (rowWords r) → Stands r k
+  stands r k h =
+      let p = rw (second-place k, third-place k, fourth-place k) at h in
+      record { class = p .0; tag = p .1 .0; payload = p .1 .1 .0; deadline = p .1 .1 .1 .0; pace = p .1 .1 .1 .1 }
+
+  stood : (r : Row) (k : ℕ) → Stands r k → Held s k (rowWords r)
+  stood r k w = rw (second-place k, third-place k, fourth-place k) (w .class, (w .tag, (w .payload, (w .deadline, w .pace))))
+
   pub row-back : (r : Row) (k : ℕ) → RowFits r → Held s k (rowWords r) → rowAt s k ≡ r
   row-back r k f h =
+      let w = stands r k h in
       rw (
-        class-back (r .class) (h .0),
-        bits-back 16 (h .1 .0) (f .payload),
-        bits-back 32 (second k (r .deadline) (h .1 .1 .0)) (f .deadline),
-        pace-back (r .pace) (k + 3) (f .pace) (from-third k (paceWords (r .pace)) (h .1 .1 .1)),
+        class-back (r .class) (w .class),
+        tag-back (r .tagged) (w .tag),
+        bits-back 16 (w .payload) (f .payload),
+        bits-back 32 (w .deadline) (f .deadline),
+        pace-back (r .pace) (k + 4) (f .pace) (w .pace),
       )
       refl
 
   pub row-fits : (r : Row) (k : ℕ) → RowFits r → Held s k (rowWords r) → rowFits s k ≡ true
   row-fits r k f h =
-      both (both (class-fits (r .class) (h .0)) (bits-fits 16 (h .1 .0) (f .payload)))
-      (both (bits-fits 32 (second k (r .deadline) (h .1 .1 .0)) (f .deadline)) (pace-fits (r .pace) (k + 3) (f .pace) (from-third k (paceWords (r .pace)) (h .1 .1 .1))))
+      let w = stands r k h in
+      both (both (class-fits (r .class) (w .class)) (tag-fits (r .tagged) (w .tag)))
+      (both (bits-fits 16 (w .payload) (f .payload)) (both (bits-fits 32 (w .deadline) (f .deadline)) (pace-fits (r .pace) (k + 4) (f .pace) (w .pace))))
 
   pub row-same : (k : ℕ) → rowFits s k ≡ true → Held s k (rowWords (rowAt s k))
   row-same k e =
-      let p = and-true (fitsMark (wordAt s k) && fitsU16 (wordAt s (k + 1))) _ e in
-      let q = and-true (fitsMark (wordAt s k)) (fitsU16 (wordAt s (k + 1))) (p .0) in
-      let r = and-true (fitsU32 (wordAt s (k + 2))) (paceFits s (k + 3)) (p .1) in
-      (class-same (wordAt s k) (q .0), (bits-same 16 (wordAt s (k + 1)) (q .1), (to-second k _ (bits-same 32 (wordAt s (k + 2)) (r .0)), to-third k (paceWords (paceAt s (k + 3))) (pace-same (k + 3) (r .1)))))
+      let p = and-true (fitsMark (wordAt s k) && fitsMark (wordAt s (k + 1))) _ e in
+      let marks = and-true (fitsMark (wordAt s k)) (fitsMark (wordAt s (k + 1))) (p .0) in
+      let rest = and-true (fitsU16 (wordAt s (k + 2))) _ (p .1) in
+      let last = and-true (fitsU32 (wordAt s (k + 3))) (paceFits s (k + 4)) (rest .1) in
+      stood (rowAt s k) k
+      record {
+        class = class-same (wordAt s k) (marks .0);
+        tag = tag-same (wordAt s (k + 1)) (marks .1);
+        payload = bits-same 16 (wordAt s (k + 2)) (rest .0);
+        deadline = bits-same 32 (wordAt s (k + 3)) (last .0);
+        pace = pace-same (k + 4) (last .1);
+      }
 
   pub row-small : (k : ℕ) → RowFits (rowAt s k)
-  row-small k = record { payload = bits-small 16 (wordAt s (k + 1)); pace = pace-small (k + 3); deadline = bits-small 32 (wordAt s (k + 2)) }
+  row-small k = record { payload = bits-small 16 (wordAt s (k + 2)); pace = pace-small (k + 4); deadline = bits-small 32 (wordAt s (k + 3)) }

@@ -10,7 +10,7 @@ use Rattle.table.specs.declared.Pace.the-variants.{Period, Rated}
 use Rattle.table.specs.declared.Row.{Row}
 use Rattle.words.specs.Words.{wordAt, stored}
 use Rattle.words.proofs.Laws.{more, two}
-use Rattle.rowbytes.specs.Row.{classWord, paceWords, rowWords, u8Of, u32Of, paceAt, fitsU8, fitsU32, paceFits}
+use Rattle.rowbytes.specs.Row.{classWord, tagWord, paceWords, rowWords, u8Of, u32Of, paceAt, fitsU8, fitsU32, paceFits}
 
 module _ (s : List ℕ) (k : ℕ) where
   -- ---- stored
@@ -20,8 +20,10 @@ module _ (s : List ℕ) (k : ℕ) where
   pub rated-put : {p : Pace} {n m : ℕ} {t : List ℕ} → p ≡ Rated m n → t ≡ stored s k (1 ∷ n ∷ m ∷ []) → t ≡ stored s k (paceWords p)
   rated-put z e = rw z e
 
-  pub row-put : (r : Row) {w : ℕ} {l t : List ℕ} → w ≡ classWord (r .class) → l ≡ stored s k (w ∷ r .payload ∷ r .deadline ∷ []) → t ≡ stored l (k + 3) (paceWords (r .pace)) → t ≡ stored s k (rowWords r)
-  row-put r {w} z e f = rw z at (more s k (w ∷ r .payload ∷ r .deadline ∷ []) (paceWords (r .pace)) e refl f)
+  pub row-put : (r : Row) {w v : ℕ} {l t u : List ℕ} → w ≡ classWord (r .class) → v ≡ tagWord (r .tagged) → l ≡ stored s k (w ∷ []) → t ≡ stored l (k + 1) (v ∷ r .payload ∷ r .deadline ∷ []) → u ≡ stored t (k + 4) (paceWords (r .pace)) → u ≡ stored s k (rowWords r)
+  row-put r {w} {v} z y e f g =
+      let four = more s k (w ∷ []) (v ∷ r .payload ∷ r .deadline ∷ []) e refl f in
+      rw (z, y) at (more s k (w ∷ v ∷ r .payload ∷ r .deadline ∷ []) (paceWords (r .pace)) four refl g)
 
   -- ---- named
   pub rated-named : wordAt s k ≡ 1 → Rated (u8Of (wordAt s (k + 2))) (u32Of (wordAt s (k + 1))) ≡ paceAt s k

@@ -28,6 +28,7 @@ pub fn row_fits(s: &[u8], k: usize) -> bool
     requires { ⌜ k + rowWidth < 2 ^ 64 ⌝ }
     ensures { λ r. ⌜ r ≡ rowFits (now (s .entry)) k ⌝ }
 {
-    let class = (word(s, k) <= 1) & (word(s, k + 1) <= U16);
-    class & ((word(s, k + 2) <= U32) & pace_fits(s, k + 3))
+    let marks = (word(s, k) <= 1) & (word(s, k + 1) <= 1);
+    let payload = word(s, k + 2) <= U16;
+    marks & (payload & ((word(s, k + 3) <= U32) & pace_fits(s, k + 4)))
 }

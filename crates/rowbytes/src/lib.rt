@@ -6,4 +6,4 @@ pub mod write;
 // The words of a pace and of a row.
 pub const PACE_WIDTH: usize = 3;
 
-pub const ROW_WIDTH: usize = 3 + PACE_WIDTH;
+pub const ROW_WIDTH: usize = 4 + PACE_WIDTH;

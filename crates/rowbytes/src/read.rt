@@ -54,11 +54,12 @@ pub fn row_at(s: &[u8], k: usize) -> Row
     ensures { λ r. ⌜ r ≡ rowAt (now (s .entry)) k ⌝ }
 {
     let class = class_of(word(s, k));
-    let pace = pace_at(s, k + 3);
+    let pace = pace_at(s, k + 4);
     Row {
         class,
-        payload: u16_at(s, k + 1),
+        tagged: word(s, k + 1) != 0,
+        payload: u16_at(s, k + 2),
         pace,
-        deadline: u32_at(s, k + 2),
+        deadline: u32_at(s, k + 3),
     }
 }

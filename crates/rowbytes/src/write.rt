@@ -4,7 +4,7 @@ ghost use mathlib.Core.List.{[], _∷_};
 ghost use Prim.Native.Nat.{_+_, _*_, _≤_};
 ghost use lib.ListN.{length};
 ghost use Rattle.words.specs.Words.{stored};
-ghost use Rattle.rowbytes.specs.Row.{paceWidth, rowWidth, classWord, paceWords, rowWords};
+ghost use Rattle.rowbytes.specs.Row.{paceWidth, rowWidth, classWord, tagWord, paceWords, rowWords};
 use table::Class;
 use table::Pace;
 use table::Row;
@@ -36,6 +36,15 @@ fn class_word(class: Class) -> u64
     }
 }
 
+fn tag_word(tagged: bool) -> u64
+    ensures { λ r. ⌜ r ≡ tagWord tagged ⌝ }
+{
+    if tagged {
+        return 1;
+    }
+    0
+}
+
 // A pace's mark, and its period, or its rate and samples.
 fn put_pace(out: &mut [u8], k: usize, pace: Pace)
     requires { ⌜ 8 * (k + paceWidth) ≤ length (now out) ⌝ }
@@ -57,13 +66,14 @@ pub fn put_row(out: &mut [u8], k: usize, row: Row)
     ensures { λ _. ⌜ now (out .exit) ≡ stored (now (out .entry)) k (rowWords row) ⌝ }
 {
     let class = row.class;
+    put_word(out, k, class_word(class));
     put_three(
         out,
-        k,
-        class_word(class),
+        k + 1,
+        tag_word(row.tagged),
         row.payload as u64,
         row.deadline as u64,
     );
     let pace = row.pace;
-    put_pace(out, k + 3, pace);
+    put_pace(out, k + 4, pace);
 }

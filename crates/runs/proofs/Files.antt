@@ -15,7 +15,7 @@ use Rattle.tablefile.specs.declared.Fault.{Fault}
 use Rattle.tablefile.specs.declared.Reading.{Reading}
 use Rattle.tablefile.specs.declared.Reading.the-variants as readings
 use Rattle.tablefile.specs.Reading as files
-use Rattle.tablefile.specs.Reading.{Reads}
+use Rattle.tablefile.specs.Reading.{readFile, Reads}
 use Rattle.machine.specs.declared.AfterOpening.{AfterOpening}
 use Rattle.machine.specs.State.{fresh}
 use Rattle.machine.specs.Calls.{Opened}
@@ -45,7 +45,7 @@ module _ {a : Reading} (v : Verdict) {before after : List ℕ} {r : Said} where
   file-refused f place e m s = by-outcome (rw (e, m) refl) s
 
 -- ---- the run on the port
-pub begins : (file : List ℕ) {l : Loaded} → Reads file l → {o : AfterOpening} → Opened (l .table) o → {before after : List ℕ} {r : Said} → Says (first (files.outcomeOf (l .answer) ∷ tables.outcomeOf (o .verdict) ∷ [])) before after r → Begins file before after (record { run = record { port = o .port; line = Empty; live = r .live }; count = r .count })
+pub begins : (file : List ℕ) {l : Loaded} → Reads (readFile file) l → {o : AfterOpening} → Opened (l .table) o → {before after : List ℕ} {r : Said} → Says (first (files.outcomeOf (l .answer) ∷ tables.outcomeOf (o .verdict) ∷ [])) before after r → Begins file before after (record { run = record { port = o .port; line = Empty; live = r .live }; count = r .count })
 begins file {l} read {o} made said =
     let s = by-outcome (sym (checked file l read (o .verdict) (made .verdict))) said in
     record {

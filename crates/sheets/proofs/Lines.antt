@@ -10,7 +10,7 @@ use Rattle.table.specs.Checks as tables
 use Rattle.planner.specs.Opening.{opening}
 use Rattle.tablefile.specs.declared.Loaded.{Loaded}
 use Rattle.tablefile.specs.Reading as files
-use Rattle.tablefile.specs.Reading.{Reads}
+use Rattle.tablefile.specs.Reading.{readFile, Reads}
 use Rattle.codes.proofs.Laws.{checked}
 use Rattle.texts.specs.Text.{ascii, decimal}
 use Rattle.sheets.specs.Sheet.{letterOf, rowLine, textBy, sheetText}
@@ -28,6 +28,6 @@ unfolding rowLine
 row-text number r limit es ep = rw (es, ep) (regroup (decimal number) (ascii " ") (letterOf (r .class)) (decimal (sizeOf r)) (decimal (periodOf r)) (decimal (r .deadline)) (decimal limit) (ascii "\n"))
 
 -- The text of a file, by the answers of reading and of opening.
-pub of-file : (file : List ℕ) (l : Loaded) → Reads file l → (v : Verdict) → tables.outcomeOf v ≡ opening (contents (l .table)) → sheetText file ≡ textBy (tables.first (files.outcomeOf (l .answer) ∷ tables.outcomeOf v ∷ [])) (contents (l .table))
+pub of-file : (file : List ℕ) (l : Loaded) → Reads (readFile file) l → (v : Verdict) → tables.outcomeOf v ≡ opening (contents (l .table)) → sheetText file ≡ textBy (tables.first (files.outcomeOf (l .answer) ∷ tables.outcomeOf v ∷ [])) (contents (l .table))
 unfolding sheetText
 of-file file l read v e = rw (checked file l read v e, read .table) refl

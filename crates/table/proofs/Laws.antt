@@ -20,7 +20,7 @@ use Rattle.table.specs.declared.Refusal.the-variants.{RowCount, Value, S
 use Rattle.table.specs.declared.Verdict.{Verdict}
 use Rattle.table.specs.declared.Verdict.the-variants.{Accepted, Refused}
 use Rattle.table.specs.Limits.{mostRows, mostSlope, mostPayload, leastSize, mostSize, leastPeriod, mostPeriod, leastRate, mostRate, mostSamples, mostDeadline, second}
-use Rattle.table.specs.Wire.{wireSize, sizeFor, sizeOf, paced, periodOf}
+use Rattle.table.specs.Wire.{wireSize, taggedSize, sizeFor, sizeOf, paced, periodOf}
 use Rattle.table.specs.Rows.{noRow, isZero, isThere, Contents, contents, rowAt, inUse, InUse, sameClass}
 use Rattle.table.specs.Checks.{Outcome, accepted, refused, numberOf, placeOf, outcomeOf, unless, passing, unlessRow, first}
 use Rattle.table.specs.Ranges.{countOk, headerOk, within, rateOk, samplesOk, paceOk, deadlineOk, rowOk, rangeChecks, ranged, Every, InRange, Ranges}
@@ -165,7 +165,7 @@ is-used t k e = let p = and-true (ltb k (length (t .rows))) (isThere (rowAt t k)
 -- a row in range is there
 pub in-range-there : (r : Row) → 1 ≤ r .deadline → isThere r ≡ true
 unfolding isThere
-in-range-there r h = rw (ne-eqb (r .deadline) 0 (λ e. omega arith)) (none (sameClass A (r .class) && eqb (r .payload) 0) (isZero (r .pace)))
+in-range-there r h = rw (ne-eqb (r .deadline) 0 (λ e. omega arith)) (none ((sameClass A (r .class) && not (r .tagged)) && eqb (r .payload) 0) (isZero (r .pace)))
   where
     none : (x y : Bool) → not (x && (y && false)) ≡ true
     none true true = refl
@@ -204,13 +204,34 @@ pub wire-grows : (p q : ℕ) → p ≤ q → wireSize p ≤ wireSize q
 unfolding wireSize
 wire-grows p q h = omega arith
 
+-- of a row's frame, with a tag or without
+by-tag : (b : Bool) (x y : ℕ) (P : ℕ → Type 0) → P x → P y → P (cond b x y)
+by-tag true x y P a b = a
+by-tag false x y P a b = b
+
+tagged-least : (p : ℕ) → leastSize ≤ taggedSize p
+unfolding taggedSize
+tagged-least p = omega arith
+
+tagged-most : (p : ℕ) → p ≤ mostPayload → taggedSize p ≤ mostSize
+unfolding taggedSize
+tagged-most p h = omega arith
+
+tagged-grows : (p q : ℕ) → p ≤ q → taggedSize p ≤ taggedSize q
+unfolding taggedSize
+tagged-grows p q h = omega arith
+
 pub frame-least : (r : Row) (p : ℕ) → leastSize ≤ sizeFor r p
 unfolding sizeFor
-frame-least r p = wire-least p
+frame-least r p = by-tag (r .tagged) (taggedSize p) (wireSize p) (λ n. leastSize ≤ n) (tagged-least p) (wire-least p)
 
 pub frame-within : (r : Row) (p : ℕ) → p ≤ r .payload → sizeFor r p ≤ sizeOf r
 unfolding sizeFor sizeOf
-frame-within r p h = wire-grows p (r .payload) h
+frame-within r p h = go (r .tagged)
+  where
+    go : (b : Bool) → cond b (taggedSize p) (wireSize p) ≤ cond b (taggedSize (r .payload)) (wireSize (r .payload))
+    go true = tagged-grows p (r .payload) h
+    go false = wire-grows p (r .payload) h
 
 pub size-least : (r : Row) → leastSize ≤ sizeOf r
 unfolding sizeOf
@@ -218,7 +239,7 @@ size-least r = frame-least r (r .payload)
 
 pub size-most : (r : Row) → r .payload ≤ mostPayload → sizeOf r ≤ mostSize
 unfolding sizeOf sizeFor
-size-most r h = wire-most (r .payload) h
+size-most r h = by-tag (r .tagged) (taggedSize (r .payload)) (wireSize (r .payload)) (λ n. n ≤ mostSize) (tagged-most (r .payload) h) (wire-most (r .payload) h)
 
 -- ---- rules 3 and 5
 pub is-within : (low high v : ℕ) → within low high v ≡ true → (low ≤ v) × (v ≤ high)

@@ -5,7 +5,7 @@ use mathlib.Core.List.{List, [], _∷_}
 use mathlib.Core.Path.{_≡_, refl, sym, _∙_, ap}
 use native.Mathlib.Omega.{arith}
 use lib.ListN.{length, getD, set, length-set}
-use borrow.Author.Tests.{eqb-true}
+use borrow.Author.Tests.{eqb-true, not-true}
 use Rattle.table.specs.declared.Class.{Class}
 use Rattle.table.specs.declared.Class.the-variants.{A, B}
 use Rattle.table.specs.declared.Pace.{Pace}
@@ -35,12 +35,14 @@ unfolding isThere
 not-there r e =
     let p = both _ _ (negated _ e) in
     let q = both _ _ (p .0) in
+    let a = both _ _ (q .0) in
     let z = both _ _ (p .1) in
-    let c = class-a (r .class) (q .0) in
+    let c = class-a (r .class) (a .0) in
+    let g = not-true (r .tagged) (a .1) in
     let n = eqb-true (r .payload) 0 (q .1) in
     let s = no-pace (r .pace) (z .0) in
     let d = eqb-true (r .deadline) 0 (z .1) in
-    λ i. record { class = c i; payload = n i; pace = s i; deadline = d i }
+    λ i. record { class = c i; tagged = g i; payload = n i; pace = s i; deadline = d i }
 
 pub no-row-there : isThere noRow ≡ false
 unfolding isThere

@@ -21,12 +21,12 @@ mostSlope = 750000
 abbrev pub mostPayload : ℕ
 mostPayload = 1500
 
--- Wire sizes of 84 to 1542 bytes.
+-- Wire sizes of 84 to 1548 bytes; without a tag, as best effort is, 1542 at most.
 abbrev pub leastSize : ℕ
 leastSize = 84
 
 abbrev pub mostSize : ℕ
-mostSize = 1542
+mostSize = 1548
 
 -- Periods of 84 to 1,000,000,000 byte-times.
 abbrev pub leastPeriod : ℕ
@@ -53,9 +53,9 @@ mostSamples = 255
 abbrev pub second : ℕ
 second = 125000000
 
--- The wire size of the largest payload that 16 bits can state, in range or not.
+-- The wire size of the largest payload that 16 bits can state, in range or not, with a tag.
 abbrev pub anySize : ℕ
-anySize = 65577
+anySize = 65583
 
 -- The period of the most samples at the lowest rate that a row's fields can state, in range or not.
 abbrev pub anyPeriod : ℕ

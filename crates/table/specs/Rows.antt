@@ -22,7 +22,7 @@ sameClass B B = true
 
 -- A row of zeros: an empty number has it, and an unused place after reading.
 abbrev pub noRow : Row
-noRow = record { class = A; payload = 0; pace = Period 0; deadline = 0 }
+noRow = record { class = A; tagged = false; payload = 0; pace = Period 0; deadline = 0 }
 
 -- Zeros mean empty: whether a row is there.
 abbrev pub isZero : Pace → Bool
@@ -30,7 +30,7 @@ isZero (Period p) = eqb p 0
 isZero (Rated samples rate) = false
 
 unfoldable pub isThere : Row → Bool
-isThere r = not ((sameClass A (r .class) && eqb (r .payload) 0) && (isZero (r .pace) && eqb (r .deadline) 0))
+isThere r = not (((sameClass A (r .class) && not (r .tagged)) && eqb (r .payload) 0) && (isZero (r .pace) && eqb (r .deadline) 0))
 
 -- What a table says: I of A and of B and the best-effort payload, and its rows, numbered from 0.
 pub record Contents : Type 0 where

@@ -1,5 +1,6 @@
 -- Wire sizes, periods and shares: what a row says of its own stream.
 use Prim.Native.Nat.{ℕ, _+_, _-_, _*_, _/_, max}
+use mathlib.Core.Bool.{cond}
 use Rattle.table.specs.declared.Pace.{Pace}
 use Rattle.table.specs.declared.Pace.the-variants.{Period, Rated}
 use Rattle.table.specs.declared.Row.{Row}
@@ -13,9 +14,13 @@ ceilDiv n d = (n + (d - 1)) / d
 unfoldable pub wireSize : ℕ → ℕ
 wireSize p = 42 + max 42 p
 
+-- With a redundancy tag, 6 bytes before the payload, it is 48 + max(36, p).
+unfoldable pub taggedSize : ℕ → ℕ
+taggedSize p = 48 + max 36 p
+
 -- The wire size of a row's frame with p bytes of payload.
 unfoldable pub sizeFor : Row → ℕ → ℕ
-sizeFor r p = wireSize p
+sizeFor r p = cond (r .tagged) (taggedSize p) (wireSize p)
 
 -- C: a row's wire size, that of a frame with its whole payload.
 unfoldable pub sizeOf : Row → ℕ

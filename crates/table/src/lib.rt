@@ -24,9 +24,10 @@ pub enum Pace {
     Rated(u8, u32),
 }
 
-// A stream: its class, payload in bytes, pace, and deadline in byte-times.
+// A stream: its class, whether its frames carry a redundancy tag, payload in bytes, pace, and deadline in byte-times.
 pub struct Row {
     pub class: Class,
+    pub tagged: bool,
     pub payload: u16,
     pub pace: Pace,
     pub deadline: u32,

@@ -12,6 +12,7 @@ pub fn no_row() -> Row
 {
     Row {
         class: Class::A,
+        tagged: false,
         payload: 0,
         pace: Pace::Period(0),
         deadline: 0,
@@ -35,6 +36,9 @@ pub fn is_there(row: Row) -> bool
         return true;
     }
     if row.payload != 0 {
+        return true;
+    }
+    if row.tagged {
         return true;
     }
     let class = row.class;

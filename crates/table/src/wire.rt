@@ -3,7 +3,7 @@ ghost use mathlib.Core.Path.{_≡_};
 ghost use Prim.Native.Nat.{_*_, _≤_};
 ghost use Rattle.table.specs.declared.Pace.{Pace};
 ghost use Rattle.table.specs.Limits.{D, anySize, anyPeriod};
-ghost use Rattle.table.specs.Wire.{wireSize, sizeFor, sizeOf, paced, periodOf, shareOf};
+ghost use Rattle.table.specs.Wire.{wireSize, taggedSize, sizeFor, sizeOf, paced, periodOf, shareOf};
 use crate::Pace;
 use crate::Row;
 use crate::quotient::ceil_div;
@@ -20,7 +20,7 @@ pub const LEFT_AT_REPORT: u32 = 12;
 // The byte-times of a second.
 const SECOND: u64 = 125_000_000;
 
-// The bytes on the wire of a frame with this payload.
+// The bytes on the wire of a frame with this payload and no redundancy tag.
 pub fn wire_size(payload: u16) -> u64
     ensures { λ r. ⌜ r ≡ wireSize payload ⌝ }
     ensures small { λ r. ⌜ r ≤ anySize ⌝ }
@@ -32,11 +32,26 @@ pub fn wire_size(payload: u16) -> u64
     }
 }
 
-// The bytes on the wire of a row's frame with this payload.
-pub fn size_for(_row: Row, payload: u16) -> u64
-    ensures { λ r. ⌜ r ≡ sizeFor «_row» payload ⌝ }
+// The bytes on the wire of a frame with a redundancy tag and this payload.
+fn tagged_size(payload: u16) -> u64
+    ensures { λ r. ⌜ r ≡ taggedSize payload ⌝ }
     ensures small { λ r. ⌜ r ≤ anySize ⌝ }
 {
+    if payload < 36 {
+        84
+    } else {
+        48 + payload as u64
+    }
+}
+
+// The bytes on the wire of a row's frame with this payload.
+pub fn size_for(row: Row, payload: u16) -> u64
+    ensures { λ r. ⌜ r ≡ sizeFor row payload ⌝ }
+    ensures small { λ r. ⌜ r ≤ anySize ⌝ }
+{
+    if row.tagged {
+        return tagged_size(payload);
+    }
     wire_size(payload)
 }
 

@@ -15,14 +15,15 @@ use Rattle.table.specs.Limits.{mostPayload, leastPeriod, mostPeriod, leastRate,
 use Rattle.table.specs.Wire.{periodOf}
 use Rattle.table.specs.Checks.{accepted}
 use Rattle.table.specs.Ranges.{periodOk, rateOk, samplesOk, paceOk, InRange}
-use Rattle.tablefile.specs.Layout.{bytesOf, Field, Payload, Period, Deadline, Rate, Samples, rated, statedOf, rateOf, samplesOf, valueOf, widthOf, defaultPayload, defaultPeriod, defaultDeadline, usual, carries, states, bitOf, classOf, sizeIn, placeOf, rowSize}
+use Rattle.tablefile.specs.declared.Edition.{Edition}
+use Rattle.tablefile.specs.Layout.{bytesOf, Field, Payload, Period, Deadline, Rate, Samples, rated, statedOf, rateOf, samplesOf, valueOf, widthOf, defaultPayload, defaultPeriod, defaultDeadline, usual, carries, states, bitOf, allows, taggedOf, classOf, sizeIn, placeOf, rowSize}
 use Rattle.tablefile.specs.Reading.{mapOf, numberIn, said, blank, paceFrom, withPayload, withPace, withDeadline, pacedFrom, rowFrom, fine, row}
 use Rattle.tablefile.specs.Writing.{mapByte, fieldBytes, rowBytes}
 use Rattle.tablefile.specs.RoundTrip.{Bytes}
 use Rattle.tablefile.proofs.Rows.{Judged, RowRead, pace-in-range, row-only-if}
 use Rattle.tablefile.proofs.Sizes.{bit-shared, bytes-length, field-size, row-length}
 use Rattle.tablefile.proofs.FieldTrip.{below, value-back, byte-below, bytes-at, behind}
-use Rattle.tablefile.proofs.MapTrip.{map-for, map-says, map-back}
+use Rattle.tablefile.proofs.MapTrip.{map-for, map-says, tag-allowed, map-back}
 use Rattle.table.proofs.Laws as law
 
 -- ---- a row's bytes read as the row, whatever follows
@@ -91,26 +92,26 @@ width-some Rate = omega arith
 width-some Samples = omega arith
 
 -- the row's bytes and what follows them, field after field
-module _ (r : Row) (rest : List ℕ) where
+module _ (ed : Edition) (r : Row) (rest : List ℕ) where
   abbrev after : Field → List ℕ
   after Samples = rest
-  after Rate = fieldBytes Samples r ++ rest
-  after Deadline = fieldBytes Rate r ++ (fieldBytes Samples r ++ rest)
-  after Period = fieldBytes Deadline r ++ (fieldBytes Rate r ++ (fieldBytes Samples r ++ rest))
-  after Payload = fieldBytes Period r ++ (fieldBytes Deadline r ++ (fieldBytes Rate r ++ (fieldBytes Samples r ++ rest)))
+  after Rate = fieldBytes ed Samples r ++ rest
+  after Deadline = fieldBytes ed Rate r ++ (fieldBytes ed Samples r ++ rest)
+  after Period = fieldBytes ed Deadline r ++ (fieldBytes ed Rate r ++ (fieldBytes ed Samples r ++ rest))
+  after Payload = fieldBytes ed Period r ++ (fieldBytes ed Deadline r ++ (fieldBytes ed Rate r ++ (fieldBytes ed Samples r ++ rest)))
 
   abbrev spread : List ℕ
-  spread = mapByte r ∷ fieldBytes Payload r ++ after Payload
+  spread = mapByte ed r ∷ fieldBytes ed Payload r ++ after Payload
 
-  spread-out : rowBytes r ++ rest ≡ spread
+  spread-out : rowBytes ed r ++ rest ≡ spread
   unfolding rowBytes
   spread-out = simp append-assoc
 
   -- behind a field's bytes the next field stands
-  next-at : (f : Field) → drop (placeOf f (mapByte r)) spread ≡ fieldBytes f r ++ after f → drop (placeOf f (mapByte r) + sizeIn f (mapByte r)) spread ≡ after f
-  next-at f e = rw (← field-size f r) (behind spread (placeOf f (mapByte r)) (fieldBytes f r) (after f) e)
+  next-at : (f : Field) → drop (placeOf f (mapByte ed r)) spread ≡ fieldBytes ed f r ++ after f → drop (placeOf f (mapByte ed r) + sizeIn f (mapByte ed r)) spread ≡ after f
+  next-at f e = rw (← field-size ed f r) (behind spread (placeOf f (mapByte ed r)) (fieldBytes ed f r) (after f) e)
 
-  stands-at : (f : Field) → drop (placeOf f (mapByte r)) spread ≡ fieldBytes f r ++ after f
+  stands-at : (f : Field) → drop (placeOf f (mapByte ed r)) spread ≡ fieldBytes ed f r ++ after f
   stands-at Payload = refl
   stands-at Period = next-at Payload refl
   stands-at Deadline = next-at Period (next-at Payload refl)
@@ -118,103 +119,109 @@ module _ (r : Row) (rest : List ℕ) where
   stands-at Samples = next-at Rate (next-at Deadline (next-at Period (next-at Payload refl)))
 
   -- a field that stands is within the bytes
-  here : (f : Field) → bitOf f (mapByte r) ≡ true → drop (placeOf f (mapByte r)) spread ≡ bytesOf (widthOf f) (valueOf f r) ++ after f
+  here : (f : Field) → bitOf f (mapByte ed r) ≡ true → drop (placeOf f (mapByte ed r)) spread ≡ bytesOf (widthOf f) (valueOf f r) ++ after f
   here f e = rw e at (stands-at f)
 
-  inside : (f : Field) → bitOf f (mapByte r) ≡ true → placeOf f (mapByte r) + widthOf f ≤ length spread
+  inside : (f : Field) → bitOf f (mapByte ed r) ≡ true → placeOf f (mapByte ed r) + widthOf f ≤ length spread
   inside f e =
-      omega (arith, sym (length-drop (placeOf f (mapByte r)) spread) ∙ ap length (here f e), length-append (bytesOf (widthOf f) (valueOf f r)) (after f), bytes-length (widthOf f) (valueOf f r), width-some f)
+      omega (arith, sym (length-drop (placeOf f (mapByte ed r)) spread) ∙ ap length (here f e), length-append (bytesOf (widthOf f) (valueOf f r)) (after f), bytes-length (widthOf f) (valueOf f r), width-some f)
 
-  module _ (g : InRange r) where
+  module _ (g : InRange r) (may : allows ed r ≡ true) where
     -- and reads as its value
-    number : (f : Field) → bitOf f (mapByte r) ≡ true → numberIn f spread ≡ valueOf f r
-    number f e = value-back (widthOf f) (valueOf f r) spread (placeOf f (mapByte r)) (after f) (fits r g f) (here f e)
+    number : (f : Field) → bitOf f (mapByte ed r) ≡ true → numberIn f spread ≡ valueOf f r
+    number f e = value-back (widthOf f) (valueOf f r) spread (placeOf f (mapByte ed r)) (after f) (fits r g f) (here f e)
 
     -- one that does not is at its default, if the row has it
-    silent : (f : Field) → bitOf f (mapByte r) ≡ false → carries f (r .pace) ≡ true → usual f r ≡ true
-    silent f e h = at-default (carries f (r .pace)) (usual f r) (sym (map-says r .field f) ∙ e) h
+    silent : (f : Field) → bitOf f (mapByte ed r) ≡ false → carries f (r .pace) ≡ true → usual ed f r ≡ true
+    silent f e h = at-default (carries f (r .pace)) (usual ed f r) (sym (map-says ed r .field f) ∙ e) h
 
-    payload-back : said Payload spread (defaultPayload r) ≡ r .payload
-    payload-back = pick (bitOf Payload (mapByte r)) (numberIn Payload spread) (defaultPayload r) (r .payload) (number Payload) (λ e. sym (eqb-true (r .payload) (defaultPayload r) (silent Payload e refl)))
+    payload-back : said Payload spread (defaultPayload ed r) ≡ r .payload
+    payload-back = pick (bitOf Payload (mapByte ed r)) (numberIn Payload spread) (defaultPayload ed r) (r .payload) (number Payload) (λ e. sym (eqb-true (r .payload) (defaultPayload ed r) (silent Payload e refl)))
 
-    deadline-back : said Deadline spread (defaultDeadline r) ≡ r .deadline
-    deadline-back = pick (bitOf Deadline (mapByte r)) (numberIn Deadline spread) (defaultDeadline r) (r .deadline) (number Deadline) (λ e. sym (eqb-true (r .deadline) (defaultDeadline r) (silent Deadline e refl)))
+    deadline-back : said Deadline spread (defaultDeadline ed r) ≡ r .deadline
+    deadline-back = pick (bitOf Deadline (mapByte ed r)) (numberIn Deadline spread) (defaultDeadline ed r) (r .deadline) (number Deadline) (λ e. sym (eqb-true (r .deadline) (defaultDeadline ed r) (silent Deadline e refl)))
 
-    period-back : rated (r .pace) ≡ false → said Period spread (defaultPeriod r) ≡ statedOf (r .pace)
+    period-back : rated (r .pace) ≡ false → said Period spread (defaultPeriod ed r) ≡ statedOf (r .pace)
     period-back own =
         let has : carries Period (r .pace) ≡ true = rw own refl in
-        pick (bitOf Period (mapByte r)) (numberIn Period spread) (defaultPeriod r) (statedOf (r .pace)) (number Period) (λ e. sym (eqb-true (statedOf (r .pace)) (defaultPeriod r) (silent Period e has)))
+        pick (bitOf Period (mapByte ed r)) (numberIn Period spread) (defaultPeriod ed r) (statedOf (r .pace)) (number Period) (λ e. sym (eqb-true (statedOf (r .pace)) (defaultPeriod ed r) (silent Period e has)))
 
-    rate-bit : bitOf Rate (mapByte r) ≡ rated (r .pace)
-    rate-bit = map-says r .field Rate ∙ law.and-all (rated (r .pace))
+    rate-bit : bitOf Rate (mapByte ed r) ≡ rated (r .pace)
+    rate-bit = map-says ed r .field Rate ∙ law.and-all (rated (r .pace))
 
-    pace-back : paceFrom spread r ≡ r .pace
+    pace-back : paceFrom ed spread r ≡ r .pace
     pace-back = go (r .pace) refl
       where
-        go : (p : Pace) → r .pace ≡ p → paceFrom spread r ≡ p
+        go : (p : Pace) → r .pace ≡ p → paceFrom ed spread r ≡ p
         go (paces.Period p) e =
-            pick (bitOf Rate (mapByte r)) (paces.Rated (numberIn Samples spread) (numberIn Rate spread)) (paces.Period (said Period spread (defaultPeriod r))) (paces.Period p)
+            pick (bitOf Rate (mapByte ed r)) (paces.Rated (numberIn Samples spread) (numberIn Rate spread)) (paces.Period (said Period spread (defaultPeriod ed r))) (paces.Period p)
             (λ bit. absurd (true≢false (sym bit ∙ rate-bit ∙ ap rated e)))
             (λ bit. ap paces.Period (period-back (ap rated e) ∙ ap statedOf e))
         go (paces.Rated samples rate) e =
-            pick (bitOf Rate (mapByte r)) (paces.Rated (numberIn Samples spread) (numberIn Rate spread)) (paces.Period (said Period spread (defaultPeriod r))) (paces.Rated samples rate)
-            (λ bit. both (number Samples (sym (bit-shared (mapByte r)) ∙ bit) ∙ ap samplesOf e) (number Rate bit ∙ ap rateOf e))
+            pick (bitOf Rate (mapByte ed r)) (paces.Rated (numberIn Samples spread) (numberIn Rate spread)) (paces.Period (said Period spread (defaultPeriod ed r))) (paces.Rated samples rate)
+            (λ bit. both (number Samples (sym (bit-shared (mapByte ed r)) ∙ bit) ∙ ap samplesOf e) (number Rate bit ∙ ap rateOf e))
             (λ bit. absurd (true≢false (sym (rate-bit ∙ ap rated e) ∙ bit)))
 
-    spread-back : rowFrom spread ≡ r
+    spread-back : rowFrom ed spread ≡ r
     unfolding rowFrom pacedFrom defaultPayload defaultPeriod defaultDeadline periodOf
     spread-back =
-        ap (λ (c : Class). withDeadline spread (withPace spread (withPayload spread (blank c)))) (map-says r .class)
-        ∙ ap (λ (v : ℕ). withDeadline spread (withPace spread (record { class = r .class; payload = v; pace = paces.Period 0; deadline = 0 }))) payload-back
-        ∙ ap (λ (p : Pace). withDeadline spread (record { class = r .class; payload = r .payload; pace = p; deadline = 0 })) pace-back
-        ∙ ap (λ (v : ℕ). record { class = r .class; payload = r .payload; pace = r .pace; deadline = v }) deadline-back
+        ap (λ (c : Class). withDeadline ed spread (withPace ed spread (withPayload ed spread (blank c (taggedOf ed (mapByte ed r)))))) (map-says ed r .class)
+        ∙ ap (λ (g : Bool). withDeadline ed spread (withPace ed spread (withPayload ed spread (blank (r .class) g)))) (map-says ed r .tag may)
+        ∙ ap (λ (v : ℕ). withDeadline ed spread (withPace ed spread (record { class = r .class; tagged = r .tagged; payload = v; pace = paces.Period 0; deadline = 0 }))) payload-back
+        ∙ ap (λ (p : Pace). withDeadline ed spread (record { class = r .class; tagged = r .tagged; payload = r .payload; pace = p; deadline = 0 })) pace-back
+        ∙ ap (λ (v : ℕ). record { class = r .class; tagged = r .tagged; payload = r .payload; pace = r .pace; deadline = v }) deadline-back
 
-    judged : (f : Field) → bitOf f (mapByte r) ≡ true → Judged (fine f r) (usual f r)
+    judged : (f : Field) → bitOf f (mapByte ed r) ≡ true → Judged (fine f r) (usual ed f r)
     judged f e =
-        let x = law.and-true (carries f (r .pace)) (not (usual f r)) (sym (map-says r .field f) ∙ e) in
-        record { ok = fine-in r g f (x .0); other = not-true (usual f r) (x .1) }
+        let x = law.and-true (carries f (r .pace)) (not (usual ed f r)) (sym (map-says ed r .field f) ∙ e) in
+        record { ok = fine-in r g f (x .0); other = not-true (usual ed f r) (x .1) }
 
-    judged-read : (f : Field) → bitOf f (mapByte r) ≡ true → Judged (fine f (rowFrom spread)) (usual f (rowFrom spread))
+    judged-read : (f : Field) → bitOf f (mapByte ed r) ≡ true → Judged (fine f (rowFrom ed spread)) (usual ed f (rowFrom ed spread))
     judged-read f e = rw spread-back (judged f e)
 
-    spread-reads : RowRead spread
-    spread-reads = record { long = omega arith; bits = map-says r .rest; one = map-says r .one; inside = λ f e. le-leb _ _ (inside f e); fit = judged-read }
+    spread-reads : RowRead ed spread
+    spread-reads = record { long = omega arith; bits = map-says ed r .rest may; one = map-says ed r .one; inside = λ f e. le-leb _ _ (inside f e); fit = judged-read }
 
 -- the row is read back, and accepted at any place
-pub row-back : (r : Row) (rest s : List ℕ) → InRange r → s ≡ rowBytes r ++ rest → rowFrom s ≡ r
-row-back r rest s g e = rw (e ∙ spread-out r rest) (spread-back r rest g)
+pub row-back : (ed : Edition) (r : Row) (rest s : List ℕ) → InRange r → allows ed r ≡ true → s ≡ rowBytes ed r ++ rest → rowFrom ed s ≡ r
+row-back ed r rest s g h e = rw (e ∙ spread-out ed r rest) (spread-back ed r rest g h)
 
-pub row-accepted : (r : Row) (rest s : List ℕ) (at : ℕ) → InRange r → s ≡ rowBytes r ++ rest → row s at ≡ accepted
-row-accepted r rest s at g e = rw (e ∙ spread-out r rest) (row-only-if (spread r rest) at (spread-reads r rest g))
+pub row-accepted : (ed : Edition) (r : Row) (rest s : List ℕ) (at : ℕ) → InRange r → allows ed r ≡ true → s ≡ rowBytes ed r ++ rest → row ed s at ≡ accepted
+row-accepted ed r rest s at g h e = rw (e ∙ spread-out ed r rest) (row-only-if ed (spread ed r rest) at (spread-reads ed r rest g h))
 
-pub row-size-back : (r : Row) (rest s : List ℕ) → s ≡ rowBytes r ++ rest → rowSize (mapOf s) ≡ length (rowBytes r)
-row-size-back r rest s e = rw (e ∙ spread-out r rest) (sym (row-length r))
+pub row-size-back : (ed : Edition) (r : Row) (rest s : List ℕ) → s ≡ rowBytes ed r ++ rest → rowSize (mapOf s) ≡ length (rowBytes ed r)
+row-size-back ed r rest s e = rw (e ∙ spread-out ed r rest) (sym (row-length ed r))
 
--- ---- bytes that read as a row are the row's bytes, and the row is in range
-pub record RowOf (s : List ℕ) : Type 0 where
-  pub bytes : s ≡ rowBytes (rowFrom s) ++ drop (rowSize (mapOf s)) s
-  pub range : InRange (rowFrom s)
+-- ---- bytes that read as a row are the row's bytes, and the row is in range and allowed
+pub record RowOf (ed : Edition) (s : List ℕ) : Type 0 where
+  pub bytes : s ≡ rowBytes ed (rowFrom ed s) ++ drop (rowSize (mapOf s)) s
+  pub range : InRange (rowFrom ed s)
+  pub allowed : allows ed (rowFrom ed s) ≡ true
 
 -- a default is in range, the deadline's where the pace is
-payload-default : (r : Row) → defaultPayload r ≤ mostPayload
+payload-default : (ed : Edition) (r : Row) → defaultPayload ed r ≤ mostPayload
 unfolding defaultPayload
-payload-default r = omega arith
+payload-default ed r = go (r .tagged)
+  where
+    go : (g : Bool) → cond g 36 42 ≤ mostPayload
+    go true = omega arith
+    go false = omega arith
 
-deadline-default : (r : Row) → paceOk (r .pace) ≡ true → (1 ≤ defaultDeadline r) × (defaultDeadline r ≤ mostDeadline)
+deadline-default : (ed : Edition) (r : Row) → paceOk (r .pace) ≡ true → (1 ≤ defaultDeadline ed r) × (defaultDeadline ed r ≤ mostDeadline)
 unfolding defaultDeadline
-deadline-default r e = (omega (arith, law.period-range r e .0), omega (arith, law.period-range r e .1))
+deadline-default ed r e = (omega (arith, law.period-range r e .0), omega (arith, law.period-range r e .1))
 
 -- beside a period's bit no rate's stands
 no-rate : (p q : Bool) → (p && q) ≡ false → p ≡ true → q ≡ false
 no-rate true q e h = e
 no-rate false q e h = cc
 
-module _ (s : List ℕ) (x : RowRead s) where
+module _ (ed : Edition) (s : List ℕ) (x : RowRead ed s) where
   abbrev m : ℕ
   m = mapOf s
 
   abbrev r : Row
-  r = rowFrom s
+  r = rowFrom ed s
 
   -- a field that stands says its number
   stated : (f : Field) → bitOf f m ≡ true → valueOf f r ≡ numberIn f s
@@ -226,15 +233,15 @@ module _ (s : List ℕ) (x : RowRead s) where
   stated Samples e = rw (bit-shared m ∙ e) refl
 
   -- one that does not is at its default, or not the row's to state
-  payload-unstated : bitOf Payload m ≡ false → r .payload ≡ defaultPayload r
+  payload-unstated : bitOf Payload m ≡ false → r .payload ≡ defaultPayload ed r
   unfolding rowFrom pacedFrom defaultPayload
   payload-unstated e = rw e refl
 
-  deadline-unstated : bitOf Deadline m ≡ false → r .deadline ≡ defaultDeadline r
+  deadline-unstated : bitOf Deadline m ≡ false → r .deadline ≡ defaultDeadline ed r
   unfolding rowFrom defaultDeadline periodOf
   deadline-unstated e = rw e refl
 
-  period-unstated : bitOf Rate m ≡ false → bitOf Period m ≡ false → statedOf (r .pace) ≡ defaultPeriod r
+  period-unstated : bitOf Rate m ≡ false → bitOf Period m ≡ false → statedOf (r .pace) ≡ defaultPeriod ed r
   unfolding rowFrom pacedFrom defaultPeriod
   period-unstated e f = rw (e, f) refl
 
@@ -242,7 +249,7 @@ module _ (s : List ℕ) (x : RowRead s) where
   unfolding rowFrom pacedFrom
   rated-read = go (bitOf Rate m) refl
     where
-      go : (b : Bool) → bitOf Rate m ≡ b → rated (paceFrom s (withPayload s (blank (classOf m)))) ≡ b
+      go : (b : Bool) → bitOf Rate m ≡ b → rated (paceFrom ed s (withPayload ed s (blank (classOf m) (taggedOf ed m)))) ≡ b
       go true e = rw e refl
       go false e = rw e refl
 
@@ -251,18 +258,18 @@ module _ (s : List ℕ) (x : RowRead s) where
     where
       go : (b : Bool) → bitOf Payload m ≡ b → r .payload ≤ mostPayload
       go true e = leb-true _ _ (x .fit Payload e .ok)
-      go false e = rw (payload-unstated e) (payload-default r)
+      go false e = rw (payload-unstated e) (payload-default ed r)
 
   pace-range : paceOk (r .pace) ≡ true
   unfolding rowFrom
-  pace-range = pace-in-range s x
+  pace-range = pace-in-range ed s x
 
   deadline-range : (1 ≤ r .deadline) × (r .deadline ≤ mostDeadline)
   deadline-range = go (bitOf Deadline m) refl
     where
       go : (b : Bool) → bitOf Deadline m ≡ b → (1 ≤ r .deadline) × (r .deadline ≤ mostDeadline)
       go true e = law.is-within 1 mostDeadline (r .deadline) (x .fit Deadline e .ok)
-      go false e = let y = deadline-default r pace-range in (omega (arith, y .0, deadline-unstated e), omega (arith, y .1, deadline-unstated e))
+      go false e = let y = deadline-default ed r pace-range in (omega (arith, y .0, deadline-unstated e), omega (arith, y .1, deadline-unstated e))
 
   in-range : InRange r
   in-range = law.row-in-range r payload-range pace-range (deadline-range .0) (deadline-range .1)
@@ -272,15 +279,15 @@ module _ (s : List ℕ) (x : RowRead s) where
   by-default true u f g = rw (f refl) refl
   by-default false u f g = rw (g refl) refl
 
-  read-states : (f : Field) → bitOf f m ≡ states f r
-  read-states Payload = by-default (bitOf Payload m) (usual Payload r) (λ e. x .fit Payload e .other) (λ e. eq-eqb _ _ (payload-unstated e))
+  read-states : (f : Field) → bitOf f m ≡ states ed f r
+  read-states Payload = by-default (bitOf Payload m) (usual ed Payload r) (λ e. x .fit Payload e .other) (λ e. eq-eqb _ _ (payload-unstated e))
   read-states Period = go (bitOf Period m) (bitOf Rate m) refl refl
     where
-      go : (a b : Bool) → bitOf Period m ≡ a → bitOf Rate m ≡ b → a ≡ states Period r
+      go : (a b : Bool) → bitOf Period m ≡ a → bitOf Rate m ≡ b → a ≡ states ed Period r
       go true b e f = rw (rated-read, no-rate (bitOf Period m) (bitOf Rate m) (x .one) e, x .fit Period e .other) refl
       go false true e f = rw (rated-read, f) refl
       go false false e f = rw (rated-read, f, eq-eqb _ _ (period-unstated f e)) refl
-  read-states Deadline = by-default (bitOf Deadline m) (usual Deadline r) (λ e. x .fit Deadline e .other) (λ e. eq-eqb _ _ (deadline-unstated e))
+  read-states Deadline = by-default (bitOf Deadline m) (usual ed Deadline r) (λ e. x .fit Deadline e .other) (λ e. eq-eqb _ _ (deadline-unstated e))
   read-states Rate = sym rated-read ∙ sym (law.and-all (rated (r .pace)))
   read-states Samples = sym (bit-shared m) ∙ sym rated-read ∙ sym (law.and-all (rated (r .pace)))
 
@@ -288,27 +295,36 @@ module _ (s : List ℕ) (x : RowRead s) where
   unfolding rowFrom pacedFrom
   class-read = refl
 
-  map-read : Bytes s → mapByte r ≡ m
-  map-read b = map-for r ∙ rw (← read-states Payload, ← read-states Period, ← read-states Deadline, ← read-states Rate, class-read) (sym (map-back m (byte-below s b 0) (x .bits)))
+  tag-read : r .tagged ≡ taggedOf ed m
+  unfolding rowFrom pacedFrom
+  tag-read = refl
 
-  field-read : Bytes s → (f : Field) → drop (placeOf f m) s ≡ fieldBytes f r ++ drop (placeOf f m + sizeIn f m) s
+  row-allowed : allows ed r ≡ true
+  unfolding allows
+  row-allowed = rw tag-read (tag-allowed ed m)
+
+  map-read : Bytes s → mapByte ed r ≡ m
+  map-read b = map-for ed r ∙ rw (← read-states Payload, ← read-states Period, ← read-states Deadline, ← read-states Rate, tag-read, class-read) (sym (map-back ed m (byte-below s b 0) (x .bits)))
+
+  field-read : Bytes s → (f : Field) → drop (placeOf f m) s ≡ fieldBytes ed f r ++ drop (placeOf f m + sizeIn f m) s
   field-read b f = rw (map-read b) (go (bitOf f m) refl)
     where
       go : (a : Bool) → bitOf f m ≡ a → drop (placeOf f m) s ≡ cond a (bytesOf (widthOf f) (valueOf f r)) [] ++ drop (placeOf f m + cond a (widthOf f) 0) s
       go true e = rw (stated f e) (bytes-at (widthOf f) s (placeOf f m) b (leb-true _ _ (x .inside f e)))
       go false e = rw (add-zero (placeOf f m)) refl
 
-  then : Bytes s → (f : Field) {q : List ℕ} → drop (placeOf f m + sizeIn f m) s ≡ q → drop (placeOf f m) s ≡ fieldBytes f r ++ q
-  then b f e = field-read b f ∙ ap (λ l. fieldBytes f r ++ l) e
+  then : Bytes s → (f : Field) {q : List ℕ} → drop (placeOf f m + sizeIn f m) s ≡ q → drop (placeOf f m) s ≡ fieldBytes ed f r ++ q
+  then b f e = field-read b f ∙ ap (λ l. fieldBytes ed f r ++ l) e
 
-pub row-of : (s : List ℕ) → Bytes s → RowRead s → RowOf s
-row-of [] b x = absurd (omega (arith, x .long))
-row-of (m ∷ p) b x =
+pub row-of : (ed : Edition) (s : List ℕ) → Bytes s → RowRead ed s → RowOf ed s
+row-of ed [] b x = absurd (omega (arith, x .long))
+row-of ed (m ∷ p) b x =
     let s = m ∷ p in
-    let r = rowFrom s in
+    let r = rowFrom ed s in
     let end = drop (rowSize m) s in
-    let all : p ≡ fieldBytes Payload r ++ after r end Payload = then s x b Payload (then s x b Period (then s x b Deadline (then s x b Rate (then s x b Samples refl)))) in
+    let all : p ≡ fieldBytes ed Payload r ++ after ed r end Payload = then ed s x b Payload (then ed s x b Period (then ed s x b Deadline (then ed s x b Rate (then ed s x b Samples refl)))) in
     record {
-      bytes = ap (λ q. m ∷ q) all ∙ ap (λ q. q ∷ fieldBytes Payload r ++ after r end Payload) (sym (map-read s x b)) ∙ sym (spread-out r end);
-      range = in-range s x;
+      bytes = ap (λ q. m ∷ q) all ∙ ap (λ q. q ∷ fieldBytes ed Payload r ++ after ed r end Payload) (sym (map-read ed s x b)) ∙ sym (spread-out ed r end);
+      range = in-range ed s x;
+      allowed = row-allowed ed s x;
     }

@@ -13,15 +13,16 @@ use Rattle.table.specs.declared.Row.{Row}
 use Rattle.table.specs.Wire.{periodOf}
 use Rattle.table.specs.Checks.{Outcome, accepted, refused, first}
 use Rattle.table.specs.Ranges.{periodOk, paceOk}
-use Rattle.tablefile.specs.Layout.{Field, Payload, Period, Deadline, Rate, Samples, widthOf, periodFor, defaultPeriod, defaultDeadline, usual, bitOf, bits4to6, twoPaces, classOf, sizeIn, placeOf, rowSize}
+use Rattle.tablefile.specs.declared.Edition.{Edition}
+use Rattle.tablefile.specs.Layout.{Field, Payload, Period, Deadline, Rate, Samples, widthOf, periodFor, defaultPeriod, defaultDeadline, usual, bitOf, reserved, twoPaces, classOf, sizeIn, placeOf, rowSize}
 use Rattle.tablefile.specs.Reading.{mapOf, pacedFrom, rowFrom, fine, presence, present, judgement, judged, fieldChecks, rowChecks, row}
 use Rattle.table.proofs.Laws as law
 use Rattle.tablefile.proofs.Sizes.{bit-shared}
 
 -- a default deadline goes by the pace, whatever deadline stands beside it
-pub default-by-pace : (r : Row) (d : ℕ) → defaultDeadline r ≡ defaultDeadline (record { class = r .class; payload = r .payload; pace = r .pace; deadline = d })
+pub default-by-pace : (ed : Edition) (r : Row) (d : ℕ) → defaultDeadline ed r ≡ defaultDeadline ed (record { class = r .class; tagged = r .tagged; payload = r .payload; pace = r .pace; deadline = d })
 unfolding defaultDeadline periodOf
-default-by-pace r d = refl
+default-by-pace ed r d = refl
 
 -- ---- lists of checks
 pub accept-first : (xs : List Outcome) → law.Accept xs → first xs ≡ accepted
@@ -67,36 +68,36 @@ judged-accepts false ok usual place h = refl
 abbrev pub Inside : Field → List ℕ → Type 0
 Inside f s = bitOf f (mapOf s) ≡ true → leb (placeOf f (mapOf s) + widthOf f) (length s) ≡ true
 
-abbrev pub Fits : Field → List ℕ → Type 0
-Fits f s = bitOf f (mapOf s) ≡ true → Judged (fine f (rowFrom s)) (usual f (rowFrom s))
+abbrev pub Fits : Edition → Field → List ℕ → Type 0
+Fits ed f s = bitOf f (mapOf s) ≡ true → Judged (fine f (rowFrom ed s)) (usual ed f (rowFrom ed s))
 
-pub record RowRead (s : List ℕ) : Type 0 where
+pub record RowRead (ed : Edition) (s : List ℕ) : Type 0 where
   pub long : 1 ≤ length s
-  pub bits : bits4to6 (mapOf s) ≡ 0
+  pub bits : reserved ed (mapOf s) ≡ 0
   pub one : twoPaces (mapOf s) ≡ false
   pub inside : (f : Field) → Inside f s
-  pub fit : (f : Field) → Fits f s
+  pub fit : (f : Field) → Fits ed f s
 
-module _ (s : List ℕ) (at : ℕ) where
-  passes : (f : Field) → judged f s at ≡ accepted → Fits f s
-  passes f e h = judged-passes (bitOf f (mapOf s)) (fine f (rowFrom s)) (usual f (rowFrom s)) (at + placeOf f (mapOf s)) e h
+module _ (ed : Edition) (s : List ℕ) (at : ℕ) where
+  passes : (f : Field) → judged ed f s at ≡ accepted → Fits ed f s
+  passes f e h = judged-passes (bitOf f (mapOf s)) (fine f (rowFrom ed s)) (usual ed f (rowFrom ed s)) (at + placeOf f (mapOf s)) e h
 
   stands-inside : (f : Field) → present f s at ≡ accepted → Inside f s
   stands-inside f e h = present-passes (bitOf f (mapOf s)) (leb (placeOf f (mapOf s) + widthOf f) (length s)) (at + placeOf f (mapOf s)) e h
 
-  accepts : (f : Field) → Fits f s → judged f s at ≡ accepted
-  accepts f h = judged-accepts (bitOf f (mapOf s)) (fine f (rowFrom s)) (usual f (rowFrom s)) (at + placeOf f (mapOf s)) h
+  accepts : (f : Field) → Fits ed f s → judged ed f s at ≡ accepted
+  accepts f h = judged-accepts (bitOf f (mapOf s)) (fine f (rowFrom ed s)) (usual ed f (rowFrom ed s)) (at + placeOf f (mapOf s)) h
 
   is-present : (f : Field) → Inside f s → present f s at ≡ accepted
   is-present f h = present-accepts (bitOf f (mapOf s)) (leb (placeOf f (mapOf s) + widthOf f) (length s)) (at + placeOf f (mapOf s)) h
 
   abbrev Both : Field → Type 0
-  Both f = Inside f s × Fits f s
+  Both f = Inside f s × Fits ed f s
 
-  pub row-if : row s at ≡ accepted → RowRead s
+  pub row-if : row ed s at ≡ accepted → RowRead ed s
   unfolding row
   row-if e =
-      let a = law.all-accept (rowChecks s at) e in
+      let a = law.all-accept (rowChecks ed s at) e in
       let payload = a .1 .1 .1 in
       let period = payload .1 .1 in
       let deadline = period .1 .1 in
@@ -107,7 +108,7 @@ module _ (s : List ℕ) (at : ℕ) where
       (stands-inside Deadline (deadline .0), passes Deadline (samples .1 .1 .0)) (stands-inside Rate (rate .0), passes Rate (rate .1 .0)) (stands-inside Samples (samples .0), passes Samples (samples .1 .0)) in
       record {
         long = leb-true 1 (length s) (law.unless-passes (leb 1 (length s)) 1 at (a .0));
-        bits = eqb-true (bits4to6 (mapOf s)) 0 (law.unless-passes (eqb (bits4to6 (mapOf s)) 0) 4 at (a .1 .0));
+        bits = eqb-true (reserved ed (mapOf s)) 0 (law.unless-passes (eqb (reserved ed (mapOf s)) 0) 4 at (a .1 .0));
         one = not-true (twoPaces (mapOf s)) (law.unless-passes (not (twoPaces (mapOf s))) 19 at (a .1 .1 .0));
         inside = λ f. each f .0;
         fit = λ f. each f .1;
@@ -120,27 +121,27 @@ module _ (s : List ℕ) (at : ℕ) where
       by-field p q d r n Rate = r
       by-field p q d r n Samples = n
 
-  field-then : RowRead s → (f : Field) {X : Type 0} → X → (present f s at ≡ accepted) × ((judged f s at ≡ accepted) × X)
+  field-then : RowRead ed s → (f : Field) {X : Type 0} → X → (present f s at ≡ accepted) × ((judged ed f s at ≡ accepted) × X)
   field-then r f rest = (is-present f (r .inside f), (accepts f (r .fit f), rest))
 
-  pub row-only-if : RowRead s → row s at ≡ accepted
+  pub row-only-if : RowRead ed s → row ed s at ≡ accepted
   unfolding row
   row-only-if r =
-      let deadline : law.Accept (judged Deadline s at ∷ []) = (accepts Deadline (r .fit Deadline), tt) in
-      let rated : (present Deadline s at ≡ accepted) × law.Accept (fieldChecks Rate s at ++ fieldChecks Samples s at ++ judged Deadline s at ∷ []) = (is-present Deadline (r .inside Deadline), field-then r Rate (field-then r Samples deadline)) in
-      accept-first (rowChecks s at)
-      (rw (le-leb 1 (length s) (r .long)) refl, (rw (eq-eqb (bits4to6 (mapOf s)) 0 (r .bits)) refl, (rw (r .one) refl, field-then r Payload (field-then r Period rated))))
+      let deadline : law.Accept (judged ed Deadline s at ∷ []) = (accepts Deadline (r .fit Deadline), tt) in
+      let rated : (present Deadline s at ≡ accepted) × law.Accept (fieldChecks ed Rate s at ++ fieldChecks ed Samples s at ++ judged ed Deadline s at ∷ []) = (is-present Deadline (r .inside Deadline), field-then r Rate (field-then r Samples deadline)) in
+      accept-first (rowChecks ed s at)
+      (rw (le-leb 1 (length s) (r .long)) refl, (rw (eq-eqb (reserved ed (mapOf s)) 0 (r .bits)) refl, (rw (r .one) refl, field-then r Payload (field-then r Period rated))))
 
 -- ---- a pace that reads is in range: a stated one was judged, and a class's own period is
 own-period : (c : Class) → periodOk (periodFor c) ≡ true
 own-period A = refl
 own-period B = refl
 
-pub pace-in-range : (s : List ℕ) → RowRead s → paceOk (pacedFrom s .pace) ≡ true
+pub pace-in-range : (ed : Edition) (s : List ℕ) → RowRead ed s → paceOk (pacedFrom ed s .pace) ≡ true
 unfolding pacedFrom rowFrom paceOk defaultPeriod
-pace-in-range s x = by-rate (bitOf Rate (mapOf s)) refl (bitOf Period (mapOf s)) refl
+pace-in-range ed s x = by-rate (bitOf Rate (mapOf s)) refl (bitOf Period (mapOf s)) refl
   where
-    by-rate : (b : Bool) → bitOf Rate (mapOf s) ≡ b → (c : Bool) → bitOf Period (mapOf s) ≡ c → paceOk (pacedFrom s .pace) ≡ true
+    by-rate : (b : Bool) → bitOf Rate (mapOf s) ≡ b → (c : Bool) → bitOf Period (mapOf s) ≡ c → paceOk (pacedFrom ed s .pace) ≡ true
     by-rate true e c f = rw (e, (rw e at (x .fit Rate e .ok)), (rw e at (x .fit Samples (sym (bit-shared (mapOf s)) ∙ e) .ok))) refl
     by-rate false e true f = rw (e, f) (rw (e, f) at (x .fit Period f .ok))
     by-rate false e false f = rw (e, f) (own-period (classOf (mapOf s)))
@@ -153,7 +154,7 @@ field-inside f m n h g = go (bitOf f m) refl
     go true e = rw e (leb-true _ n (g e))
     go false e = rw e (omega arith)
 
-pub row-inside : (s : List ℕ) → RowRead s → rowSize (mapOf s) ≤ length s
-row-inside s r =
+pub row-inside : (ed : Edition) (s : List ℕ) → RowRead ed s → rowSize (mapOf s) ≤ length s
+row-inside ed s r =
     let next : (f : Field) → placeOf f (mapOf s) ≤ length s → placeOf f (mapOf s) + sizeIn f (mapOf s) ≤ length s = λ f h. field-inside f (mapOf s) (length s) h (r .inside f) in
     next Samples (next Rate (next Deadline (next Period (next Payload (r .long)))))

@@ -2,12 +2,9 @@
 use Prim.Native.Nat.{ℕ}
 use mathlib.Core.Bool.{cond}
 use mathlib.Core.Path.{_≡_, refl, sym, _∙_, ap}
-use native.Mathlib.Omega.{arith}
 use lib.Dec.{eqb}
 use Rattle.table.specs.declared.Refusal.{Refusal}
 use Rattle.table.specs.declared.Refusal.the-variants as refusals
-use Rattle.table.specs.declared.Verdict.{Verdict}
-use Rattle.table.specs.declared.Verdict.the-variants as verdicts
 use Rattle.table.specs.Checks as tables
 use Rattle.table.specs.Checks.{Outcome, accepted, refused}
 use Rattle.table.proofs.Laws as law
@@ -17,6 +14,7 @@ use Rattle.tablefile.specs.declared.Reading.the-variants.{Whole, Refused
 use Rattle.tablefile.specs.declared.Writing.{Writing}
 use Rattle.tablefile.specs.declared.Writing.the-variants as writings
 use Rattle.tablefile.specs.Reading.{outcomeOf}
+use Rattle.tablefile.specs.Writing as writes
 use Rattle.tablefile.specs.RoundTrip.{SameReading, SameWriting}
 
 abbrev readingBy : Outcome → Reading
@@ -38,30 +36,24 @@ answered (Refused TwoPaces p) = refl
 pub same-reading : SameReading
 same-reading a b e = sym (answered a) ∙ ap readingBy e ∙ answered b
 
--- 17 is no refusal of a table
-abbrev numberIn : Outcome → ℕ
-numberIn accepted = 0
-numberIn (refused n p) = n
+-- what an outcome and a length say was answered: 17 and 23 are no refusals of a table
+abbrev writingBy : Outcome → ℕ → Writing
+writingBy accepted n = writings.Written n
+writingBy (refused k p) n = cond (eqb k 17) writings.TooShort (cond (eqb k 23) (writings.Tagged p) (writings.Refused (law.refusalBy k p)))
 
-not-17 : (r : Refusal) → 17 ≡ tables.numberOf r → ⊥
-not-17 refusals.RowCount e = omega (arith, e)
-not-17 (refusals.Value p) e = omega (arith, e)
-not-17 refusals.Slopes e = omega (arith, e)
-not-17 (refusals.Shares c) e = omega (arith, e)
-not-17 (refusals.Deadline k) e = omega (arith, e)
-not-17 (refusals.Frames c) e = omega (arith, e)
+of-table : (r : Refusal) → writingBy (refused (tables.numberOf r) (tables.placeOf r)) 0 ≡ writings.Refused (law.refusalBy (tables.numberOf r) (tables.placeOf r))
+of-table refusals.RowCount = refl
+of-table (refusals.Value p) = refl
+of-table refusals.Slopes = refl
+of-table (refusals.Shares c) = refl
+of-table (refusals.Deadline k) = refl
+of-table (refusals.Frames c) = refl
 
-abbrev refusing : Verdict → Writing
-refusing verdicts.Accepted = writings.TooShort
-refusing (verdicts.Refused r) = writings.Refused r
+told : (w : Writing) → writingBy (writes.outcomeOf w) (writes.lengthOf w) ≡ w
+told (writings.Written n) = refl
+told writings.TooShort = refl
+told (writings.Tagged k) = refl
+told (writings.Refused r) = of-table r ∙ ap writings.Refused (law.refusal-said r)
 
 pub same-writing : SameWriting
-same-writing (writings.Written n) (writings.Written m) e f = ap writings.Written f
-same-writing (writings.Written n) writings.TooShort e f = law.never (sym e)
-same-writing (writings.Written n) (writings.Refused r) e f = law.never (sym e)
-same-writing writings.TooShort (writings.Written m) e f = law.never e
-same-writing writings.TooShort writings.TooShort e f = refl
-same-writing writings.TooShort (writings.Refused r) e f = absurd (not-17 r (ap numberIn e))
-same-writing (writings.Refused q) (writings.Written m) e f = law.never e
-same-writing (writings.Refused q) writings.TooShort e f = absurd (not-17 q (ap numberIn (sym e)))
-same-writing (writings.Refused q) (writings.Refused r) e f = ap refusing (law.same-verdict (verdicts.Refused q) (verdicts.Refused r) e)
+same-writing a b e f = sym (told a) ∙ ap (λ (o : Outcome). writingBy o (writes.lengthOf a)) e ∙ ap (writingBy (writes.outcomeOf b)) f ∙ told b

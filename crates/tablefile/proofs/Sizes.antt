@@ -7,6 +7,7 @@ use native.Mathlib.Numerals.{add-one}
 use native.Mathlib.Omega.{arith}
 use lib.ListN.{length, length-append}
 use Rattle.table.specs.declared.Row.{Row}
+use Rattle.tablefile.specs.declared.Edition.{Edition}
 use Rattle.tablefile.specs.Layout.{bytesOf, Field, Payload, Period, Deadline, Rate, Samples, valueOf, widthOf, bitOf, sizeIn, placeOf, rowSize}
 use Rattle.tablefile.specs.Writing.{mapByte, fieldBytes, rowBytes}
 
@@ -24,14 +25,14 @@ unfolding bytesOf
 bytes-length zero v = refl
 bytes-length (suc n) v = length-append (bytesOf n (v / 256)) (v % 256 ∷ []) ∙ rw (bytes-length n (v / 256), add-one n) refl
 
-pub field-size : (f : Field) (r : Row) → length (fieldBytes f r) ≡ sizeIn f (mapByte r)
-field-size f r = go (bitOf f (mapByte r))
+pub field-size : (ed : Edition) (f : Field) (r : Row) → length (fieldBytes ed f r) ≡ sizeIn f (mapByte ed r)
+field-size ed f r = go (bitOf f (mapByte ed r))
   where
     go : (b : Bool) → length (cond b (bytesOf (widthOf f) (valueOf f r)) []) ≡ cond b (widthOf f) 0
     go true = bytes-length (widthOf f) (valueOf f r)
     go false = refl
 
-pub row-length : (r : Row) → length (rowBytes r) ≡ rowSize (mapByte r)
+pub row-length : (ed : Edition) (r : Row) → length (rowBytes ed r) ≡ rowSize (mapByte ed r)
 unfolding rowBytes
-row-length r =
-    simp length-append (omega (arith, field-size Payload r, field-size Period r, field-size Deadline r, field-size Rate r, field-size Samples r))
+row-length ed r =
+    simp length-append (omega (arith, field-size ed Payload r, field-size ed Period r, field-size ed Deadline r, field-size ed Rate r, field-size ed Samples r))

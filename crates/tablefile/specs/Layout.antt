@@ -1,4 +1,4 @@
--- The layout of a table file, in the terms that reader and writer share.
+-- The layout of a table file in an edition, in the terms that reader and writer share.
 use Prim.Native.Nat.{ℕ, zero, suc, _+_, _*_, _/_, _%_}
 use mathlib.Core.Bool.{Bool, true, false, not, cond, _&&_}
 use mathlib.Core.List.{List, [], _∷_, _++_}
@@ -10,10 +10,16 @@ use Rattle.table.specs.declared.Pace.{Pace}
 use Rattle.table.specs.declared.Pace.the-variants as paces
 use Rattle.table.specs.declared.Row.{Row}
 use Rattle.table.specs.Wire.{periodOf}
+use Rattle.tablefile.specs.declared.Edition.{Edition}
+use Rattle.tablefile.specs.declared.Edition.the-variants.{Avb1, Avb2}
 
--- The header, 15 bytes, opens with the four letters AVB1.
-abbrev pub letters : List ℕ
-letters = 65 ∷ 86 ∷ 66 ∷ 49 ∷ []
+-- The header, 15 bytes, opens with the edition's four letters: AVB1 or AVB2.
+abbrev pub lastLetter : Edition → ℕ
+lastLetter Avb1 = 49
+lastLetter Avb2 = 50
+
+abbrev pub letters : Edition → List ℕ
+letters e = 65 ∷ 86 ∷ 66 ∷ lastLetter e ∷ []
 
 abbrev pub headerSize : ℕ
 headerSize = 15
@@ -80,27 +86,27 @@ widthOf Deadline = 4
 widthOf Rate = 4
 widthOf Samples = 1
 
--- Defaults: payload 42; period 15,625 for A, 31,250 for B; deadline the row's period.
-unfoldable pub defaultPayload : Row → ℕ
-defaultPayload r = 42
+-- Defaults in an edition: payload 42, of a tagged row 36; period 15,625 for A, 31,250 for B; deadline the row's period.
+unfoldable pub defaultPayload : Edition → Row → ℕ
+defaultPayload e r = cond (r .tagged) 36 42
 
 abbrev pub periodFor : Class → ℕ
 periodFor A = 15625
 periodFor B = 31250
 
-unfoldable pub defaultPeriod : Row → ℕ
-defaultPeriod r = periodFor (r .class)
+unfoldable pub defaultPeriod : Edition → Row → ℕ
+defaultPeriod e r = periodFor (r .class)
 
-unfoldable pub defaultDeadline : Row → ℕ
-defaultDeadline r = periodOf r
+unfoldable pub defaultDeadline : Edition → Row → ℕ
+defaultDeadline e r = periodOf r
 
 -- A field at its default. Rate and samples have none.
-abbrev pub usual : Field → Row → Bool
-usual Payload r = eqb (r .payload) (defaultPayload r)
-usual Period r = eqb (statedOf (r .pace)) (defaultPeriod r)
-usual Deadline r = eqb (r .deadline) (defaultDeadline r)
-usual Rate r = false
-usual Samples r = false
+abbrev pub usual : Edition → Field → Row → Bool
+usual e Payload r = eqb (r .payload) (defaultPayload e r)
+usual e Period r = eqb (statedOf (r .pace)) (defaultPeriod e r)
+usual e Deadline r = eqb (r .deadline) (defaultDeadline e r)
+usual e Rate r = false
+usual e Samples r = false
 
 -- The fields that a row's file states: those that are not at their default; a period only of a row that has one, rate and samples only of a rated row.
 abbrev pub carries : Field → Pace → Bool
@@ -110,10 +116,10 @@ carries Deadline p = true
 carries Rate p = rated p
 carries Samples p = rated p
 
-abbrev pub states : Field → Row → Bool
-states f r = carries f (r .pace) && not (usual f r)
+abbrev pub states : Edition → Field → Row → Bool
+states e f r = carries f (r .pace) && not (usual e f r)
 
--- The map byte: bit 0 payload, bit 1 period, bit 2 deadline, bit 3 rate and samples, bit 7 set for class B. Bits 4 to 6 are reserved: they stand for nothing, and are 0.
+-- The map byte: bit 0 payload, bit 1 period, bit 2 deadline, bit 3 rate and samples, bit 4 set for a tagged row, bit 7 set for class B.
 abbrev pub weightOf : Field → ℕ
 weightOf Payload = 1
 weightOf Period = 2
@@ -124,11 +130,30 @@ weightOf Samples = 8
 unfoldable pub bitOf : Field → ℕ → Bool
 bitOf f m = eqb (m / weightOf f % 2) 1
 
-abbrev pub bits4to6 : ℕ → ℕ
-bits4to6 m = m / 16 % 8
+-- Reserved bits stand for nothing, and are 0: 5 and 6, and in AVB1 bit 4 too.
+abbrev pub reserved : Edition → ℕ → ℕ
+reserved Avb1 m = m / 16 % 8
+reserved Avb2 m = m / 32 % 4
 
-abbrev pub reservedClear : ℕ → Bool
-reservedClear m = eqb (bits4to6 m) 0
+abbrev pub reservedClear : Edition → ℕ → Bool
+reservedClear e m = eqb (reserved e m) 0
+
+-- So a tagged row stands in an AVB2 file alone.
+abbrev pub hasTags : Edition → Bool
+hasTags Avb1 = false
+hasTags Avb2 = true
+
+unfoldable pub allows : Edition → Row → Bool
+allows e r = cond (r .tagged) (hasTags e) true
+
+abbrev pub tagWeight : ℕ
+tagWeight = 16
+
+unfoldable pub taggedOf : Edition → ℕ → Bool
+taggedOf e m = hasTags e && eqb (m / tagWeight % 2) 1
+
+abbrev pub tagBit : Bool → ℕ
+tagBit tagged = cond tagged tagWeight 0
 
 -- Bit 3 stands in place of bit 1, never beside it.
 abbrev pub twoPaces : ℕ → Bool

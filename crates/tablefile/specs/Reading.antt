@@ -1,4 +1,4 @@
--- What a list of bytes reads as: a table, or the first refusal with its place. Checks are in file order, but for the deadline's range and default.
+-- What a list of bytes reads as: an edition and a table, or the first refusal with its place. Checks are in file order, but for the deadline's range and default.
 use Prim.Native.Nat.{ℕ, zero, suc, _+_, _-_}
 use mathlib.Core.Bool.{Bool, true, false, not, cond, _&&_}
 use mathlib.Core.List.{List, [], _∷_, _++_}
@@ -15,12 +15,14 @@ use Rattle.table.specs.Limits.{mostRows, mostSlope, mostPayload}
 use Rattle.table.specs.Rows.{noRow}
 use Rattle.table.specs.Checks.{Outcome, accepted, refused, unless, first}
 use Rattle.table.specs.Ranges.{periodOk, rateOk, samplesOk, deadlineOk}
+use Rattle.tablefile.specs.declared.Edition.{Edition}
+use Rattle.tablefile.specs.declared.Edition.the-variants.{Avb1, Avb2}
 use Rattle.tablefile.specs.declared.Fault.{Fault}
 use Rattle.tablefile.specs.declared.Fault.the-variants.{CutShort, Letters, RowCount, MapBit, OutOfRange, StatesDefault, Trailing, TwoPaces}
 use Rattle.tablefile.specs.declared.Reading.{Reading}
 use Rattle.tablefile.specs.declared.Reading.the-variants.{Whole, Refused}
 use Rattle.tablefile.specs.declared.Loaded.{Loaded}
-use Rattle.tablefile.specs.Layout.{letters, headerSize, idleaPlace, idlebPlace, bestPlace, countPlace, valueAt, Field, Payload, Period, Deadline, Rate, Samples, valueOf, widthOf, defaultPayload, defaultPeriod, defaultDeadline, usual, bitOf, reservedClear, twoPaces, classOf, placeOf, rowSize}
+use Rattle.tablefile.specs.Layout.{letters, headerSize, idleaPlace, idlebPlace, bestPlace, countPlace, valueAt, Field, Payload, Period, Deadline, Rate, Samples, valueOf, widthOf, defaultPayload, defaultPeriod, defaultDeadline, usual, bitOf, reservedClear, taggedOf, twoPaces, classOf, placeOf, rowSize}
 
 -- The number of each case of the fault enum.
 abbrev pub numberOf : Fault → ℕ
@@ -39,8 +41,8 @@ outcomeOf Whole = accepted
 outcomeOf (Refused f place) = refused (numberOf f) place
 
 -- ---- The header: IA u32, IB u32, best-effort payload u16, row count u8.
-unfoldable pub opens : List ℕ → Bool
-opens s = (eqb (getD s 0 0) (getD letters 0 0) && eqb (getD s 1 0) (getD letters 1 0)) && (eqb (getD s 2 0) (getD letters 2 0) && eqb (getD s 3 0) (getD letters 3 0))
+unfoldable pub opens : Edition → List ℕ → Bool
+opens e s = (eqb (getD s 0 0) (getD (letters e) 0 0) && eqb (getD s 1 0) (getD (letters e) 1 0)) && (eqb (getD s 2 0) (getD (letters e) 2 0) && eqb (getD s 3 0) (getD (letters e) 3 0))
 
 abbrev pub headerOf : List ℕ → Header
 headerOf s = record { idlea = valueAt 4 s idleaPlace; idleb = valueAt 4 s idlebPlace; payload = valueAt 2 s bestPlace }
@@ -49,18 +51,18 @@ abbrev pub rowCount : List ℕ → ℕ
 rowCount s = getD s countPlace 0
 
 -- In file order: 1, the file ends inside the header (place 0, tested before all else); 2, wrong first four bytes (place 0); 5 and 3 at the field's first byte.
-abbrev pub headerChecks : List ℕ → List Outcome
-headerChecks s =
+abbrev pub headerChecks : Edition → List ℕ → List Outcome
+headerChecks e s =
     unless (leb headerSize (length s)) 1 0
-    ∷ unless (opens s) 2 0
+    ∷ unless (opens e s) 2 0
     ∷ unless (leb (headerOf s .idlea) mostSlope) 5 idleaPlace
     ∷ unless (leb (headerOf s .idleb) mostSlope) 5 idlebPlace
     ∷ unless (leb (headerOf s .payload) mostPayload) 5 bestPlace
     ∷ unless (leb 1 (rowCount s) && leb (rowCount s) mostRows) 3 countPlace
     ∷ []
 
-unfoldable pub header : List ℕ → Outcome
-header s = first (headerChecks s)
+unfoldable pub header : Edition → List ℕ → Outcome
+header e s = first (headerChecks e s)
 
 -- ---- A row, from the part of the file that starts at its map byte.
 abbrev pub mapOf : List ℕ → ℕ
@@ -75,28 +77,28 @@ abbrev pub said : Field → List ℕ → ℕ → ℕ
 said f s default = cond (bitOf f (mapOf s)) (numberIn f s) default
 
 -- A row before its first field.
-abbrev pub blank : Class → Row
-blank c = record { class = c; payload = 0; pace = paces.Period 0; deadline = 0 }
+abbrev pub blank : Class → Bool → Row
+blank c tagged = record { class = c; tagged = tagged; payload = 0; pace = paces.Period 0; deadline = 0 }
 
-abbrev pub withPayload : List ℕ → Row → Row
-withPayload s r = record { class = r .class; payload = said Payload s (defaultPayload r); pace = r .pace; deadline = r .deadline }
+abbrev pub withPayload : Edition → List ℕ → Row → Row
+withPayload e s r = record { class = r .class; tagged = r .tagged; payload = said Payload s (defaultPayload e r); pace = r .pace; deadline = r .deadline }
 
 -- The table remembers which way the period was given: by bit 3 a rate and samples, and else a period.
-abbrev pub paceFrom : List ℕ → Row → Pace
-paceFrom s r = cond (bitOf Rate (mapOf s)) (paces.Rated (numberIn Samples s) (numberIn Rate s)) (paces.Period (said Period s (defaultPeriod r)))
+abbrev pub paceFrom : Edition → List ℕ → Row → Pace
+paceFrom e s r = cond (bitOf Rate (mapOf s)) (paces.Rated (numberIn Samples s) (numberIn Rate s)) (paces.Period (said Period s (defaultPeriod e r)))
 
-abbrev pub withPace : List ℕ → Row → Row
-withPace s r = record { class = r .class; payload = r .payload; pace = paceFrom s r; deadline = r .deadline }
+abbrev pub withPace : Edition → List ℕ → Row → Row
+withPace e s r = record { class = r .class; tagged = r .tagged; payload = r .payload; pace = paceFrom e s r; deadline = r .deadline }
 
-abbrev pub withDeadline : List ℕ → Row → Row
-withDeadline s r = record { class = r .class; payload = r .payload; pace = r .pace; deadline = said Deadline s (defaultDeadline r) }
+abbrev pub withDeadline : Edition → List ℕ → Row → Row
+withDeadline e s r = record { class = r .class; tagged = r .tagged; payload = r .payload; pace = r .pace; deadline = said Deadline s (defaultDeadline e r) }
 
 -- A row but for its deadline, whose default goes by the pace; and the row.
-unfoldable pub pacedFrom : List ℕ → Row
-pacedFrom s = withPace s (withPayload s (blank (classOf (mapOf s))))
+unfoldable pub pacedFrom : Edition → List ℕ → Row
+pacedFrom e s = withPace e s (withPayload e s (blank (classOf (mapOf s)) (taggedOf e (mapOf s))))
 
-unfoldable pub rowFrom : List ℕ → Row
-rowFrom s = withDeadline s (pacedFrom s)
+unfoldable pub rowFrom : Edition → List ℕ → Row
+rowFrom e s = withDeadline e s (pacedFrom e s)
 
 -- A field's values: payload 0 to 1500, period 84 to 1,000,000,000 byte-times, deadline 1 to 1,000,000,000 byte-times, rate 1,000 to 200,000 Hz, samples 1 to 255.
 abbrev pub fine : Field → Row → Bool
@@ -122,46 +124,46 @@ present f s at = presence (bitOf f (mapOf s)) (leb (placeOf f (mapOf s) + widthO
 abbrev pub judgement : (stands ok usual : Bool) → ℕ → Outcome
 judgement stands ok usual place = asked stands (first (unless ok 5 place ∷ unless (not usual) 6 place ∷ []))
 
-abbrev pub judged : Field → List ℕ → ℕ → Outcome
-judged f s at = judgement (bitOf f (mapOf s)) (fine f (rowFrom s)) (usual f (rowFrom s)) (at + placeOf f (mapOf s))
+abbrev pub judged : Edition → Field → List ℕ → ℕ → Outcome
+judged e f s at = judgement (bitOf f (mapOf s)) (fine f (rowFrom e s)) (usual e f (rowFrom e s)) (at + placeOf f (mapOf s))
 
 -- A field: its bytes are there, and then what they say.
 abbrev pub fieldTests : (stands inside ok usual : Bool) → ℕ → List Outcome
 fieldTests stands inside ok usual place = presence stands inside place ∷ judgement stands ok usual place ∷ []
 
-abbrev pub fieldChecks : Field → List ℕ → ℕ → List Outcome
-fieldChecks f s at = present f s at ∷ judged f s at ∷ []
+abbrev pub fieldChecks : Edition → Field → List ℕ → ℕ → List Outcome
+fieldChecks e f s at = present f s at ∷ judged e f s at ∷ []
 
--- The map byte: 1, the file ends where it should stand; 4, a map bit of 4 to 6; 19, bits 1 and 3 both set.
-abbrev pub mapChecks : List ℕ → ℕ → List Outcome
-mapChecks s at = unless (leb 1 (length s)) 1 at ∷ unless (reservedClear (mapOf s)) 4 at ∷ unless (not (twoPaces (mapOf s))) 19 at ∷ []
+-- The map byte: 1, the file ends where it should stand; 4, a reserved map bit; 19, bits 1 and 3 both set.
+abbrev pub mapChecks : Edition → List ℕ → ℕ → List Outcome
+mapChecks e s at = unless (leb 1 (length s)) 1 at ∷ unless (reservedClear e (mapOf s)) 4 at ∷ unless (not (twoPaces (mapOf s))) 19 at ∷ []
 
 -- A row, in file order; but the deadline is judged last, since its default goes by the pace. The row stands at `at`, and places count from the start of the file.
-abbrev pub rowChecks : List ℕ → ℕ → List Outcome
-rowChecks s at =
-    mapChecks s at
-    ++ fieldChecks Payload s at
-    ++ fieldChecks Period s at
+abbrev pub rowChecks : Edition → List ℕ → ℕ → List Outcome
+rowChecks e s at =
+    mapChecks e s at
+    ++ fieldChecks e Payload s at
+    ++ fieldChecks e Period s at
     ++ present Deadline s at
-    ∷ fieldChecks Rate s at
-    ++ fieldChecks Samples s at
-    ++ judged Deadline s at
+    ∷ fieldChecks e Rate s at
+    ++ fieldChecks e Samples s at
+    ++ judged e Deadline s at
     ∷ []
 
-unfoldable pub row : List ℕ → ℕ → Outcome
-row s at = first (rowChecks s at)
+unfoldable pub row : Edition → List ℕ → ℕ → Outcome
+row e s at = first (rowChecks e s at)
 
 -- ---- Rows one behind the other from a place on: what each says, the rows, and the place behind the last.
 abbrev pub behindRow : List ℕ → ℕ → ℕ
 behindRow s at = at + rowSize (mapOf (drop at s))
 
-unfoldable pub rowsChecks : ℕ → List ℕ → ℕ → List Outcome
-rowsChecks zero s at = []
-rowsChecks (suc n) s at = row (drop at s) at ∷ rowsChecks n s (behindRow s at)
+unfoldable pub rowsChecks : Edition → ℕ → List ℕ → ℕ → List Outcome
+rowsChecks e zero s at = []
+rowsChecks e (suc n) s at = row e (drop at s) at ∷ rowsChecks e n s (behindRow s at)
 
-unfoldable pub rowsFrom : ℕ → List ℕ → ℕ → List Row
-rowsFrom zero s at = []
-rowsFrom (suc n) s at = rowFrom (drop at s) ∷ rowsFrom n s (behindRow s at)
+unfoldable pub rowsFrom : Edition → ℕ → List ℕ → ℕ → List Row
+rowsFrom e zero s at = []
+rowsFrom e (suc n) s at = rowFrom e (drop at s) ∷ rowsFrom e n s (behindRow s at)
 
 unfoldable pub rowsEnd : ℕ → List ℕ → ℕ → ℕ
 rowsEnd zero s at = at
@@ -171,8 +173,8 @@ rowsEnd (suc n) s at = rowsEnd n s (behindRow s at)
 abbrev pub fileEnd : List ℕ → ℕ
 fileEnd s = rowsEnd (rowCount s) s headerSize
 
-abbrev pub fileChecks : List ℕ → List Outcome
-fileChecks s = header s ∷ first (rowsChecks (rowCount s) s headerSize) ∷ unless (leb (length s) (fileEnd s)) 7 (fileEnd s) ∷ []
+abbrev pub fileChecks : Edition → List ℕ → List Outcome
+fileChecks e s = header e s ∷ first (rowsChecks e (rowCount s) s headerSize) ∷ unless (leb (length s) (fileEnd s)) 7 (fileEnd s) ∷ []
 
 -- A table of zeros: what is handed back at a refusal.
 abbrev pub noTable : Table
@@ -182,19 +184,29 @@ noTable = record { header = record { idlea = 0; idleb = 0; payload = 0 }; count 
 abbrev pub tableOf : List ℕ → List Row → Table
 tableOf s rs = record { header = headerOf s; count = rowCount s; rows = rs ++ replicate (mostRows - length rs) noRow }
 
-abbrev pub tableBy : Outcome → List ℕ → Table
-tableBy accepted s = tableOf s (rowsFrom (rowCount s) s headerSize)
-tableBy (refused n place) s = noTable
+abbrev pub tableBy : Edition → Outcome → List ℕ → Table
+tableBy e accepted s = tableOf s (rowsFrom e (rowCount s) s headerSize)
+tableBy e (refused n place) s = noTable
 
--- What a file reads as: an outcome, and the table.
+-- What a file reads as: an outcome, an edition, and the table.
 pub record FileRead : Type 0 where
   pub outcome : Outcome
+  pub edition : Edition
   pub table : Table
 
-unfoldable pub readFile : List ℕ → FileRead
-readFile s = record { outcome = first (fileChecks s); table = tableBy (first (fileChecks s)) s }
+-- In an edition.
+unfoldable pub readAs : Edition → List ℕ → FileRead
+readAs e s = record { outcome = first (fileChecks e s); edition = e; table = tableBy e (first (fileChecks e s)) s }
 
--- The promise of reading.
-pub record Reads (s : List ℕ) (r : Loaded) : Type 0 where
-  pub answer : outcomeOf (r .answer) ≡ readFile s .outcome
-  pub table : r .table ≡ readFile s .table
+-- The edition is the one that the first four bytes name. Where they are AVB2's it is that one, and else AVB1, which refuses all letters but its own with 2.
+unfoldable pub editionOf : List ℕ → Edition
+editionOf s = cond (opens Avb2 s) Avb2 Avb1
+
+unfoldable pub readFile : List ℕ → FileRead
+readFile s = readAs (editionOf s) s
+
+-- The promise of reading: the answer, the edition and the table are those of what the file reads as.
+pub record Reads (f : FileRead) (r : Loaded) : Type 0 where
+  pub answer : outcomeOf (r .answer) ≡ f .outcome
+  pub edition : r .edition ≡ f .edition
+  pub table : r .table ≡ f .table

@@ -1,14 +1,28 @@
-// What reader and writer share of the layout: the letters, where the header's fields stand, a map byte's bits, where a row's fields stand, and the defaults.
+// What reader and writer share of the layout in an edition: the letters, where the header's fields stand, a map byte's bits, where a row's fields stand, and the defaults.
 ghost use mathlib.Core.Path.{_≡_};
 ghost use mathlib.Core.Bool.{cond};
 ghost use Prim.Native.Nat.{_+_, _≤_};
-ghost use Rattle.tablefile.specs.Layout.{Payload, Period, Deadline, Rate, Samples, statedOf, rateOf, samplesOf, bitOf, reservedClear, twoPaces, classOf, classBit, placeOf, rowSize, defaultPayload, defaultPeriod, defaultDeadline};
+ghost use Rattle.tablefile.specs.Layout as layout;
+ghost use Rattle.tablefile.specs.Layout.{Payload, Period, Deadline, Rate, Samples, statedOf, rateOf, samplesOf, bitOf, reservedClear, allows, taggedOf, twoPaces, classOf, classBit, placeOf, rowSize, defaultPayload, defaultPeriod, defaultDeadline};
+use crate::Edition;
 use table::Class;
 use table::Pace;
 use table::Row;
 use table::wire::period;
 
-pub const LETTERS: [u8; 4] = *b"AVB1";
+const AVB1: [u8; 4] = *b"AVB1";
+
+const AVB2: [u8; 4] = *b"AVB2";
+
+// The letters that a file opens with.
+pub fn letters(edition: Edition) -> [u8; 4]
+    ensures { λ r. ⌜ r ≡ layout.letters edition ⌝ }
+{
+    match edition {
+        Edition::Avb1 => AVB1,
+        Edition::Avb2 => AVB2,
+    }
+}
 
 pub const HEADER_SIZE: usize = 15;
 
@@ -34,7 +48,7 @@ pub const RATE_WIDTH: usize = 4;
 
 pub const SAMPLES_WIDTH: usize = 1;
 
-// The weights of a map byte's bits: one for each field, rate and samples together, the lowest of the reserved ones, and class B's above those.
+// The weights of a map byte's bits: one for each field, rate and samples together, the tag's, the lowest of those that are reserved in every edition, and class B's above those.
 pub const PAYLOAD_WEIGHT: u8 = 1;
 
 pub const PERIOD_WEIGHT: u8 = 2;
@@ -43,11 +57,13 @@ pub const DEADLINE_WEIGHT: u8 = 4;
 
 pub const RATE_WEIGHT: u8 = 8;
 
-const RESERVED_WEIGHT: u8 = 16;
+pub const TAG_WEIGHT: u8 = 16;
+
+const RESERVED_WEIGHT: u8 = 32;
 
 const CLASS_WEIGHT: u8 = 128;
 
-// What a map byte says: which fields stand, whether no reserved bit does, whether both paces stand, and the class.
+// What a map byte says: which fields stand, whether no reserved bit does, whether the row is tagged, whether both paces stand, and the class.
 pub fn payload_stands(map: u8) -> bool
     ensures { λ r. ⌜ r ≡ bitOf Payload map ⌝ }
 {
@@ -73,11 +89,36 @@ pub fn rate_stands(map: u8) -> bool
     map / RATE_WEIGHT % 2 == 1
 }
 
-// The bits below the class's, taken together, are below the lowest reserved one.
-pub fn reserved_clear(map: u8) -> bool
-    ensures { λ r. ⌜ r ≡ reservedClear map ⌝ }
+// The bits below the class's, taken together, are below the lowest reserved one. AVB1 reserves the tag's bit too.
+pub fn reserved_clear(edition: Edition, map: u8) -> bool
+    ensures { λ r. ⌜ r ≡ reservedClear edition map ⌝ }
 {
-    map % CLASS_WEIGHT < RESERVED_WEIGHT
+    match edition {
+        Edition::Avb1 => map % CLASS_WEIGHT < TAG_WEIGHT,
+        Edition::Avb2 => map % CLASS_WEIGHT < RESERVED_WEIGHT,
+    }
+}
+
+pub fn tagged_of(edition: Edition, map: u8) -> bool
+    ensures { λ r. ⌜ r ≡ taggedOf edition map ⌝ }
+{
+    match edition {
+        Edition::Avb1 => false,
+        Edition::Avb2 => map / TAG_WEIGHT % 2 == 1,
+    }
+}
+
+// Whether a row may stand in a file of the edition: a tagged one in an AVB2 file alone.
+pub fn allowed(edition: Edition, row: Row) -> bool
+    ensures { λ r. ⌜ r ≡ allows edition row ⌝ }
+{
+    if !row.tagged {
+        return true;
+    }
+    match edition {
+        Edition::Avb1 => false,
+        Edition::Avb2 => true,
+    }
 }
 
 pub fn two_paces(map: u8) -> bool
@@ -185,15 +226,15 @@ pub fn samples(pace: Pace) -> u8
     }
 }
 
-// The defaults. Each may go by what stands before its field in the row.
-pub fn default_payload(_row: Row) -> u16
-    ensures { λ r. ⌜ r ≡ defaultPayload «_row» ⌝ }
+// The defaults in an edition. Each may go by what stands before its field in the row.
+pub fn default_payload(_edition: Edition, row: Row) -> u16
+    ensures { λ r. ⌜ r ≡ defaultPayload «_edition» row ⌝ }
 {
-    42
+    if row.tagged { 36 } else { 42 }
 }
 
-pub fn default_period(row: Row) -> u32
-    ensures { λ r. ⌜ r ≡ defaultPeriod row ⌝ }
+pub fn default_period(_edition: Edition, row: Row) -> u32
+    ensures { λ r. ⌜ r ≡ defaultPeriod «_edition» row ⌝ }
 {
     let class = row.class;
     match class {
@@ -202,8 +243,8 @@ pub fn default_period(row: Row) -> u32
     }
 }
 
-pub fn default_deadline(row: Row) -> u64
-    ensures { λ r. ⌜ r ≡ defaultDeadline row ⌝ }
+pub fn default_deadline(_edition: Edition, row: Row) -> u64
+    ensures { λ r. ⌜ r ≡ defaultDeadline «_edition» row ⌝ }
 {
     period(row)
 }

@@ -2,6 +2,12 @@
 pub mod layout;
 pub mod numbers;
 
+// An edition of the layout, named by the letters that a file opens with: AVB2 has tagged rows.
+pub enum Edition {
+    Avb1,
+    Avb2,
+}
+
 // What is wrong with a file. specs/Reading.antt gives each case its number.
 pub enum Fault {
     CutShort,
@@ -20,15 +26,17 @@ pub enum Reading {
     Refused(Fault, usize),
 }
 
-// A file's table beside the answer; a table of zeros at a refusal.
+// A file's edition and table beside the answer; at a refusal the edition that the letters name, or AVB1, and a table of zeros.
 pub struct Loaded {
     pub answer: Reading,
+    pub edition: Edition,
     pub table: table::Table,
 }
 
-// The answer of writing: the length of the file, or why nothing was written.
+// The answer of writing: the length of the file, or why nothing was written: too short a buffer, a tagged row, or the table's refusal.
 pub enum Writing {
     Written(usize),
     TooShort,
+    Tagged(usize),
     Refused(table::Refusal),
 }

@@ -7,6 +7,7 @@ use lib.Dec.{leb}
 use lib.ListN.{length}
 use Rattle.table.specs.declared.Row.{Row}
 use Rattle.table.specs.Checks.{Outcome, accepted, refused, first}
+use Rattle.tablefile.specs.declared.Edition.{Edition}
 use Rattle.tablefile.specs.Layout.{Field, widthOf, usual, bitOf, placeOf}
 use Rattle.tablefile.specs.Reading.{mapOf, rowFrom, fine, presence, present, judgement, judged, fieldTests, fieldChecks}
 use Rattle.tablefile.proofs.Laws.{orElse, first-join}
@@ -15,13 +16,8 @@ use Rattle.tablefile.proofs.Laws.{orElse, first-join}
 pub by-tests : (b i o u : Bool) (place : ℕ) {stands inside ok usual : Bool} → b ≡ stands → i ≡ inside → o ≡ ok → u ≡ usual → first (fieldTests stands inside ok usual place) ≡ first (fieldTests b i o u place)
 by-tests b i o u place eb ei eo eu = rw (eb, ei, eo, eu) refl
 
--- the tests that the code makes of a field are the field's
+-- only whether a field is there
 module _ (f : Field) (s : List ℕ) (at : ℕ) {m : ℕ} (em : m ≡ mapOf s) {b : Bool} (eb : b ≡ bitOf f m) {place : ℕ} (ep : place ≡ placeOf f m) where
-  pub field-told : {r : Row} {inside ok default : Bool} {x : Outcome} → r ≡ rowFrom s → inside ≡ leb (place + widthOf f) (length s) → ok ≡ fine f r → default ≡ usual f r
-      → x ≡ first (fieldTests b inside ok default (at + place)) → x ≡ first (fieldChecks f s at)
-  field-told er ei eo eu e = rw (← em, ← er, ← eb, ← ep, ← ei, ← eo, ← eu) e
-
-  -- only whether it is there, and only what it says
   pub present-told : {inside : Bool} {x : Outcome} → inside ≡ leb (place + widthOf f) (length s) → x ≡ first (fieldTests b inside true false (at + place)) → x ≡ present f s at
   present-told {inside} ei e = e ∙ go b inside ∙ rw (← em, ← eb, ← ep, ← ei) refl
     where
@@ -30,8 +26,14 @@ module _ (f : Field) (s : List ℕ) (at : ℕ) {m : ℕ} (em : m ≡ mapOf s) {b
       go true false = refl
       go false inside = refl
 
-  -- a field that does not stand is not judged, so what is held for it does not matter
-  pub judged-told : {r : Row} {ok default : Bool} {x : Outcome} → (b ≡ true → r ≡ rowFrom s) → ok ≡ fine f r → default ≡ usual f r → x ≡ first (fieldTests b true ok default (at + place)) → x ≡ judged f s at
+-- the tests that the code makes of a field are the field's
+module _ (ed : Edition) (f : Field) (s : List ℕ) (at : ℕ) {m : ℕ} (em : m ≡ mapOf s) {b : Bool} (eb : b ≡ bitOf f m) {place : ℕ} (ep : place ≡ placeOf f m) where
+  pub field-told : {r : Row} {inside ok default : Bool} {x : Outcome} → r ≡ rowFrom ed s → inside ≡ leb (place + widthOf f) (length s) → ok ≡ fine f r → default ≡ usual ed f r
+      → x ≡ first (fieldTests b inside ok default (at + place)) → x ≡ first (fieldChecks ed f s at)
+  field-told er ei eo eu e = rw (← em, ← er, ← eb, ← ep, ← ei, ← eo, ← eu) e
+
+  -- only what it says: one that does not stand is not judged, so what is held for it does not matter
+  pub judged-told : {r : Row} {ok default : Bool} {x : Outcome} → (b ≡ true → r ≡ rowFrom ed s) → ok ≡ fine f r → default ≡ usual ed f r → x ≡ first (fieldTests b true ok default (at + place)) → x ≡ judged ed f s at
   judged-told {r} {ok} {default} er eo eu e = e ∙ by-bit b refl ∙ rw (← em, ← eb, ← ep) refl
     where
       go : (ok default : Bool) → first (fieldTests true true ok default (at + place)) ≡ judgement true ok default (at + place)
@@ -39,8 +41,8 @@ module _ (f : Field) (s : List ℕ) (at : ℕ) {m : ℕ} (em : m ≡ mapOf s) {b
       go true false = refl
       go false default = refl
 
-      by-bit : (c : Bool) → b ≡ c → first (fieldTests c true ok default (at + place)) ≡ judgement c (fine f (rowFrom s)) (usual f (rowFrom s)) (at + place)
-      by-bit true h = rw (eo, eu, er h) (go (fine f (rowFrom s)) (usual f (rowFrom s)))
+      by-bit : (c : Bool) → b ≡ c → first (fieldTests c true ok default (at + place)) ≡ judgement c (fine f (rowFrom ed s)) (usual ed f (rowFrom ed s)) (at + place)
+      by-bit true h = rw (eo, eu, er h) (go (fine f (rowFrom ed s)) (usual ed f (rowFrom ed s)))
       by-bit false h = refl
 
 -- checks one behind the other: a refusal ends them, and else the others decide

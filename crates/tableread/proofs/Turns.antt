@@ -12,6 +12,7 @@ use Rattle.table.specs.declared.Table.{Table}
 use Rattle.table.specs.Limits.{mostRows}
 use Rattle.table.specs.Rows.{noRow}
 use Rattle.table.specs.Checks.{accepted, refused, first}
+use Rattle.tablefile.specs.declared.Edition.{Edition}
 use Rattle.tablefile.specs.Layout.{headerSize, rowSize}
 use Rattle.tablefile.specs.Reading.{rowCount, header, headerOf, mapOf, rowFrom, row, behindRow, rowsChecks, rowsFrom, rowsEnd, tableOf}
 use Rattle.tablefile.proofs.Laws.{row-if, row-inside, rows-count}
@@ -24,37 +25,37 @@ unfolding rowsEnd
 end-next zero s at = refl
 end-next (suc i) s at = end-next i s (behindRow s at)
 
-rows-next : (i : ℕ) (s : List ℕ) (at : ℕ) → rowsFrom (suc i) s at ≡ rowsFrom i s at ++ rowFrom (drop (rowsEnd i s at) s) ∷ []
+rows-next : (ed : Edition) (i : ℕ) (s : List ℕ) (at : ℕ) → rowsFrom ed (suc i) s at ≡ rowsFrom ed i s at ++ rowFrom ed (drop (rowsEnd i s at) s) ∷ []
 unfolding rowsFrom rowsEnd
-rows-next zero s at = refl
-rows-next (suc i) s at = ap (λ (l : List Row). rowFrom (drop at s) ∷ l) (rows-next i s (behindRow s at))
+rows-next ed zero s at = refl
+rows-next ed (suc i) s at = ap (λ (l : List Row). rowFrom ed (drop at s) ∷ l) (rows-next ed i s (behindRow s at))
 
-checks-next : (i : ℕ) (s : List ℕ) (at : ℕ) → law.Accept (rowsChecks i s at) → row (drop (rowsEnd i s at) s) (rowsEnd i s at) ≡ accepted → law.Accept (rowsChecks (suc i) s at)
+checks-next : (ed : Edition) (i : ℕ) (s : List ℕ) (at : ℕ) → law.Accept (rowsChecks ed i s at) → row ed (drop (rowsEnd i s at) s) (rowsEnd i s at) ≡ accepted → law.Accept (rowsChecks ed (suc i) s at)
 unfolding rowsChecks rowsEnd
-checks-next zero s at a e = (e, tt)
-checks-next (suc i) s at a e = (a .0, checks-next i s (behindRow s at) (a .1) e)
+checks-next ed zero s at a e = (e, tt)
+checks-next ed (suc i) s at a e = (a .0, checks-next ed i s (behindRow s at) (a .1) e)
 
-stops : (i n : ℕ) (s : List ℕ) (at : ℕ) {k p : ℕ} → i < n → law.Accept (rowsChecks i s at) → row (drop (rowsEnd i s at) s) (rowsEnd i s at) ≡ refused k p → first (rowsChecks n s at) ≡ refused k p
+stops : (ed : Edition) (i n : ℕ) (s : List ℕ) (at : ℕ) {k p : ℕ} → i < n → law.Accept (rowsChecks ed i s at) → row ed (drop (rowsEnd i s at) s) (rowsEnd i s at) ≡ refused k p → first (rowsChecks ed n s at) ≡ refused k p
 unfolding rowsChecks rowsEnd
-stops i zero s at h a e = absurd (omega arith)
-stops zero (suc n) s at h a e = rw e refl
-stops (suc i) (suc n) s at h a e = rw (a .0) (stops i n s (behindRow s at) (le-of-suc-le-suc h) (a .1) e)
+stops ed i zero s at h a e = absurd (omega arith)
+stops ed zero (suc n) s at h a e = rw e refl
+stops ed (suc i) (suc n) s at h a e = rw (a .0) (stops ed i n s (behindRow s at) (le-of-suc-le-suc h) (a .1) e)
 
 -- ---- the part of the file that starts at a row is all that is left of it
 pub part-is : (s : List ℕ) (at : ℕ) → take (length s - at) (drop at s) ≡ drop at s
 part-is s at = take-all (length s - at) (drop at s) (rw (length-drop at s) (omega arith))
 
 -- ---- after i rows, at a place of the file
-pub record Filling (s : List ℕ) (t : Table) (at i : ℕ) : Type 0 where
-  pub table : t ≡ tableOf s (rowsFrom i s headerSize)
+pub record Filling (ed : Edition) (s : List ℕ) (t : Table) (at i : ℕ) : Type 0 where
+  pub table : t ≡ tableOf s (rowsFrom ed i s headerSize)
   pub place : at ≡ rowsEnd i s headerSize
   pub within : at ≤ length s
   pub few : i ≤ rowCount s
-  pub checks : law.Accept (rowsChecks i s headerSize)
+  pub checks : law.Accept (rowsChecks ed i s headerSize)
 
-pub begins : (s : List ℕ) {t : Table} → header s ≡ accepted → t ≡ tableOf s [] → Filling s t headerSize 0
+pub begins : (ed : Edition) (s : List ℕ) {t : Table} → header ed s ≡ accepted → t ≡ tableOf s [] → Filling ed s t headerSize 0
 unfolding rowsFrom rowsEnd rowsChecks
-begins s e t = record { table = t; place = refl; within = long-enough s e; few = omega arith; checks = tt }
+begins ed s e t = record { table = t; place = refl; within = long-enough ed s e; few = omega arith; checks = tt }
 
 -- one row more in the place behind the others
 room : (rs : List Row) (r : Row) → length rs < mostRows → replicate (mostRows - length rs) noRow ≡ noRow ∷ replicate (mostRows - length (rs ++ r ∷ [])) noRow
@@ -70,36 +71,36 @@ stored rs r i e h =
 abbrev pub withRowAt : Table → ℕ → Row → Table
 withRowAt t i r = record { header = t .header; count = t .count; rows = set (t .rows) i r }
 
-filled : (s : List ℕ) (i : ℕ) (r : Row) → i < mostRows → r ≡ rowFrom (drop (rowsEnd i s headerSize) s) → withRowAt (tableOf s (rowsFrom i s headerSize)) i r ≡ tableOf s (rowsFrom (i + 1) s headerSize)
-filled s i r h e =
-    ap (λ (l : List Row). record { header = headerOf s; count = rowCount s; rows = l }) (stored (rowsFrom i s headerSize) r i (rows-count i s headerSize) h)
-    ∙ ap (tableOf s) (ap (λ (x : Row). rowsFrom i s headerSize ++ x ∷ []) e ∙ sym (rows-next i s headerSize) ∙ ap (λ (k : ℕ). rowsFrom k s headerSize) (sym (add-one i)))
+filled : (ed : Edition) (s : List ℕ) (i : ℕ) (r : Row) → i < mostRows → r ≡ rowFrom ed (drop (rowsEnd i s headerSize) s) → withRowAt (tableOf s (rowsFrom ed i s headerSize)) i r ≡ tableOf s (rowsFrom ed (i + 1) s headerSize)
+filled ed s i r h e =
+    ap (λ (l : List Row). record { header = headerOf s; count = rowCount s; rows = l }) (stored (rowsFrom ed i s headerSize) r i (rows-count ed i s headerSize) h)
+    ∙ ap (tableOf s) (ap (λ (x : Row). rowsFrom ed i s headerSize ++ x ∷ []) e ∙ sym (rows-next ed i s headerSize) ∙ ap (λ (k : ℕ). rowsFrom ed k s headerSize) (sym (add-one i)))
 
-module _ (s : List ℕ) {t : Table} {at i : ℕ} (f : Filling s t at i) where
+module _ (ed : Edition) (s : List ℕ) {t : Table} {at i : ℕ} (f : Filling ed s t at i) where
   -- the row at the place, and what is wrong with it
   module _ {p : List ℕ} (ep : p ≡ drop at s) where
-    pub inside : row p at ≡ accepted → at + rowSize (mapOf p) ≤ length s
+    pub inside : row ed p at ≡ accepted → at + rowSize (mapOf p) ≤ length s
     inside e =
-        let h : rowSize (mapOf p) ≤ length (drop at s) = rw (← ep) (row-inside p (row-if p at e)) in
+        let h : rowSize (mapOf p) ≤ length (drop at s) = rw (← ep) (row-inside ed p (row-if ed p at e)) in
         let w = f .within in
         omega (arith, length-drop at s)
 
-    pub goes-on : {r : Row} {size : ℕ} → i < rowCount s → i < mostRows → r ≡ rowFrom p → row p at ≡ accepted → size ≡ rowSize (mapOf p) → Filling s (withRowAt t i r) (at + size) (i + 1)
+    pub goes-on : {r : Row} {size : ℕ} → i < rowCount s → i < mostRows → r ≡ rowFrom ed p → row ed p at ≡ accepted → size ≡ rowSize (mapOf p) → Filling ed s (withRowAt t i r) (at + size) (i + 1)
     goes-on {r} {size} h g er e es =
         let here : p ≡ drop (rowsEnd i s headerSize) s = ep ∙ ap (λ (k : ℕ). drop k s) (f .place) in
-        let fine : row (drop (rowsEnd i s headerSize) s) (rowsEnd i s headerSize) ≡ accepted = rw (← here, ← f .place) e in
+        let fine : row ed (drop (rowsEnd i s headerSize) s) (rowsEnd i s headerSize) ≡ accepted = rw (← here, ← f .place) e in
         record {
-          table = ap (λ (x : Table). withRowAt x i r) (f .table) ∙ filled s i r g (er ∙ ap rowFrom here);
+          table = ap (λ (x : Table). withRowAt x i r) (f .table) ∙ filled ed s i r g (er ∙ ap (rowFrom ed) here);
           place = rw (es, here, add-one i, end-next i s headerSize, ← f .place) refl;
           within = rw es (inside e);
           few = omega arith;
-          checks = rw (add-one i) (checks-next i s headerSize (f .checks) fine);
+          checks = rw (add-one i) (checks-next ed i s headerSize (f .checks) fine);
         }
 
-    pub ends-at : {k q : ℕ} → i < rowCount s → row p at ≡ refused k q → first (rowsChecks (rowCount s) s headerSize) ≡ refused k q
+    pub ends-at : {k q : ℕ} → i < rowCount s → row ed p at ≡ refused k q → first (rowsChecks ed (rowCount s) s headerSize) ≡ refused k q
     ends-at h e =
         let here : p ≡ drop (rowsEnd i s headerSize) s = ep ∙ ap (λ (k : ℕ). drop k s) (f .place) in
-        stops i (rowCount s) s headerSize h (f .checks) (rw (← here, ← f .place) e)
+        stops ed i (rowCount s) s headerSize h (f .checks) (rw (← here, ← f .place) e)
 
   pub all-read : rowCount s ≤ i → i ≡ rowCount s
   all-read h = omega (arith, f .few)

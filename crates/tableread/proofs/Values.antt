@@ -14,7 +14,8 @@ use Rattle.table.specs.Limits.{mostPeriod}
 use Rattle.table.specs.Wire.{periodOf}
 use Rattle.table.specs.Checks.{accepted}
 use Rattle.table.proofs.Laws as law
-use Rattle.tablefile.specs.Layout.{valueAt, Field, Payload, Period, Deadline, Rate, Samples, widthOf, defaultPayload, defaultPeriod, defaultDeadline, bitOf, classOf, placeOf}
+use Rattle.tablefile.specs.declared.Edition.{Edition}
+use Rattle.tablefile.specs.Layout.{valueAt, Field, Payload, Period, Deadline, Rate, Samples, widthOf, defaultPayload, defaultPeriod, defaultDeadline, bitOf, taggedOf, classOf, placeOf}
 use Rattle.tablefile.specs.Reading.{mapOf, numberIn, said, blank, withPayload, paceFrom, withDeadline, pacedFrom, rowFrom, row}
 use Rattle.tablefile.proofs.Laws.{row-if, pace-in-range}
 
@@ -42,33 +43,33 @@ module _ (f : Field) (s : List ℕ) {m : ℕ} (is : m ≡ mapOf s) {v : ℕ} whe
     unstated h g = let q : bitOf f (mapOf s) ≡ false = rw (← is) (sym bit ∙ h) in rw q g
 
 -- a field put into the row before it
-pub payload-put : (s : List ℕ) (before : Row) {v : ℕ} → v ≡ said Payload s (defaultPayload before) → _≡_ {A = Row} (record { class = before .class; payload = v; pace = before .pace; deadline = before .deadline }) (withPayload s before)
-payload-put s before e = rw e refl
+pub payload-put : (ed : Edition) (s : List ℕ) (before : Row) {v : ℕ} → v ≡ said Payload s (defaultPayload ed before) → _≡_ {A = Row} (record { class = before .class; tagged = before .tagged; payload = v; pace = before .pace; deadline = before .deadline }) (withPayload ed s before)
+payload-put ed s before e = rw e refl
 
-pub deadline-put : (s : List ℕ) (before : Row) {v : ℕ} → v ≡ said Deadline s (defaultDeadline before) → _≡_ {A = Row} (record { class = before .class; payload = before .payload; pace = before .pace; deadline = v }) (withDeadline s before)
-deadline-put s before e = rw e refl
+pub deadline-put : (ed : Edition) (s : List ℕ) (before : Row) {v : ℕ} → v ≡ said Deadline s (defaultDeadline ed before) → _≡_ {A = Row} (record { class = before .class; tagged = before .tagged; payload = before .payload; pace = before .pace; deadline = v }) (withDeadline ed s before)
+deadline-put ed s before e = rw e refl
 
-module _ (s : List ℕ) (before : Row) {m : ℕ} (is : m ≡ mapOf s) {b : Bool} (bit : b ≡ bitOf Rate m) where
-  pub by-rate : {v n : ℕ} → b ≡ true → v ≡ numberIn Rate s → n ≡ numberIn Samples s → paces.Rated n v ≡ paceFrom s before
+module _ (ed : Edition) (s : List ℕ) (before : Row) {m : ℕ} (is : m ≡ mapOf s) {b : Bool} (bit : b ≡ bitOf Rate m) where
+  pub by-rate : {v n : ℕ} → b ≡ true → v ≡ numberIn Rate s → n ≡ numberIn Samples s → paces.Rated n v ≡ paceFrom ed s before
   by-rate h e g = let q : bitOf Rate (mapOf s) ≡ true = rw (← is) (sym bit ∙ h) in rw (e, g, q) refl
 
-  pub by-period : {v : ℕ} → b ≡ false → v ≡ said Period s (defaultPeriod before) → paces.Period v ≡ paceFrom s before
+  pub by-period : {v : ℕ} → b ≡ false → v ≡ said Period s (defaultPeriod ed before) → paces.Period v ≡ paceFrom ed s before
   by-period h e = let q : bitOf Rate (mapOf s) ≡ false = rw (← is) (sym bit ∙ h) in rw (q, e) refl
 
-pub paced-built : (s : List ℕ) {m : ℕ} {c : Class} {x : Row} {p : Pace} → m ≡ mapOf s → c ≡ classOf m → x ≡ withPayload s (blank c) → p ≡ paceFrom s x
-    → _≡_ {A = Row} (record { class = c; payload = x .payload; pace = p; deadline = 0 }) (pacedFrom s)
+pub paced-built : (ed : Edition) (s : List ℕ) {m : ℕ} {c : Class} {g : Bool} {x : Row} {p : Pace} → m ≡ mapOf s → c ≡ classOf m → g ≡ taggedOf ed m → x ≡ withPayload ed s (blank c g) → p ≡ paceFrom ed s x
+    → _≡_ {A = Row} (record { class = c; tagged = g; payload = x .payload; pace = p; deadline = 0 }) (pacedFrom ed s)
 unfolding pacedFrom
-paced-built s em ec ex ep = rw (ep, ex, ec, em) refl
+paced-built ed s em ec eg ex ep = rw (ep, ex, ec, eg, em) refl
 
-pub row-built : (s : List ℕ) {x : Row} → x ≡ pacedFrom s → withDeadline s x ≡ rowFrom s
+pub row-built : (ed : Edition) (s : List ℕ) {x : Row} → x ≡ pacedFrom ed s → withDeadline ed s x ≡ rowFrom ed s
 unfolding rowFrom
-row-built s e = ap (withDeadline s) e
+row-built ed s e = ap (withDeadline ed s) e
 
 -- a deadline that stands
-pub deadline-stated : (s : List ℕ) {m : ℕ} → m ≡ mapOf s → {b : Bool} → b ≡ bitOf Deadline m → {p : ℕ} → p ≡ placeOf Deadline m → {x : Row} → x ≡ pacedFrom s → {v : ℕ} → v ≡ valueAt 4 s p → b ≡ true
-    → _≡_ {A = Row} (record { class = x .class; payload = x .payload; pace = x .pace; deadline = v }) (rowFrom s)
-deadline-stated s is bit place {x} e g h = deadline-put s x (stated Deadline s is bit (defaultDeadline x) h place g) ∙ row-built s e
+pub deadline-stated : (ed : Edition) (s : List ℕ) {m : ℕ} → m ≡ mapOf s → {b : Bool} → b ≡ bitOf Deadline m → {p : ℕ} → p ≡ placeOf Deadline m → {x : Row} → x ≡ pacedFrom ed s → {v : ℕ} → v ≡ valueAt 4 s p → b ≡ true
+    → _≡_ {A = Row} (record { class = x .class; tagged = x .tagged; payload = x .payload; pace = x .pace; deadline = v }) (rowFrom ed s)
+deadline-stated ed s is bit place {x} e g h = deadline-put ed s x (stated Deadline s is bit (defaultDeadline ed x) h place g) ∙ row-built ed s e
 
 -- the period of a row that is let pass fits a deadline
-pub short-period : (s : List ℕ) (at : ℕ) → row s at ≡ accepted → {x : Row} → x ≡ pacedFrom s → periodOf x ≤ mostPeriod
-short-period s at e is = rw is (law.period-range (pacedFrom s) (pace-in-range s (row-if s at e)) .1)
+pub short-period : (ed : Edition) (s : List ℕ) (at : ℕ) → row ed s at ≡ accepted → {x : Row} → x ≡ pacedFrom ed s → periodOf x ≤ mostPeriod
+short-period ed s at e is = rw is (law.period-range (pacedFrom ed s) (pace-in-range ed s (row-if ed s at e)) .1)

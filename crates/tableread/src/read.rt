@@ -2,14 +2,14 @@
 ghost use mathlib.Core.List.{[], _∷_, _++_};
 ghost use mathlib.Core.Path.{_≡_};
 ghost use Prim.Native.Nat.{_+_, _≤_};
-ghost use lib.ListN.{length, getD};
+ghost use lib.ListN.{getD};
 ghost use Rattle.table.specs.Limits.{mostPeriod};
 ghost use Rattle.table.specs.Wire.{periodOf};
 ghost use Rattle.table.specs.Checks.{accepted, unless, first};
 ghost use Rattle.tablefile.specs.declared.Reading.{Reading};
 ghost use Rattle.tablefile.specs.Layout.{headerSize, valueAt, Payload, Period, Deadline, Rate, Samples};
 ghost use Rattle.tablefile.specs.Reading.{numberOf, outcomeOf, opens, header, mapOf, withPayload, paceFrom, withDeadline, pacedFrom};
-ghost use Rattle.tablefile.specs.Reading.{present, judged, fieldTests, fieldChecks, mapChecks, row, noTable, tableOf, Reads};
+ghost use Rattle.tablefile.specs.Reading.{present, judged, fieldTests, fieldChecks, mapChecks, row, noTable, tableOf, readAs, editionOf, readFile, Reads};
 use table::Header;
 use table::Pace;
 use table::ROWS;
@@ -22,6 +22,7 @@ use table::ranges::period_ok;
 use table::ranges::rate_ok;
 use table::ranges::samples_ok;
 use table::rows::no_row;
+use tablefile::Edition;
 use tablefile::Fault;
 use tablefile::Loaded;
 use tablefile::Reading;
@@ -31,7 +32,6 @@ use tablefile::layout::DEADLINE_WIDTH;
 use tablefile::layout::HEADER_SIZE;
 use tablefile::layout::IDLEA_PLACE;
 use tablefile::layout::IDLEB_PLACE;
-use tablefile::layout::LETTERS;
 use tablefile::layout::PAYLOAD_PLACE;
 use tablefile::layout::PAYLOAD_WIDTH;
 use tablefile::layout::PERIOD_WIDTH;
@@ -43,6 +43,7 @@ use tablefile::layout::deadline_stands;
 use tablefile::layout::default_deadline;
 use tablefile::layout::default_payload;
 use tablefile::layout::default_period;
+use tablefile::layout::letters;
 use tablefile::layout::payload_stands;
 use tablefile::layout::period_place;
 use tablefile::layout::period_stands;
@@ -54,6 +55,7 @@ use tablefile::layout::row_size;
 use tablefile::layout::samples;
 use tablefile::layout::samples_place;
 use tablefile::layout::stated;
+use tablefile::layout::tagged_of;
 use tablefile::layout::two_paces;
 
 // A byte, or 0 behind the last.
@@ -83,23 +85,23 @@ fn u32_at(s: &[u8], at: usize) -> u32
 }
 
 // The payload where its bit stands, and else its default in the row before it. `s` starts at the row's map byte.
-fn with_payload(s: &[u8], map: u8, before: Row) -> Row
+fn with_payload(edition: Edition, s: &[u8], map: u8, before: Row) -> Row
     requires { ⌜ map ≡ mapOf (now s) ⌝ }
-    ensures { λ r. ⌜ r ≡ withPayload (now (s .entry)) before ⌝ }
+    ensures { λ r. ⌜ r ≡ withPayload edition (now (s .entry)) before ⌝ }
 {
     let mut row = before;
     if payload_stands(map) {
         row.payload = u16_at(s, PAYLOAD_PLACE);
         return row;
     }
-    row.payload = default_payload(before);
+    row.payload = default_payload(edition, before);
     row
 }
 
 // A rate and samples where their bit stands, and else a period.
-fn pace_from(s: &[u8], map: u8, before: Row) -> Pace
+fn pace_from(edition: Edition, s: &[u8], map: u8, before: Row) -> Pace
     requires { ⌜ map ≡ mapOf (now s) ⌝ }
-    ensures { λ r. ⌜ r ≡ paceFrom (now (s .entry)) before ⌝ }
+    ensures { λ r. ⌜ r ≡ paceFrom edition (now (s .entry)) before ⌝ }
 {
     if rate_stands(map) {
         let rate = u32_at(s, rate_place(map));
@@ -109,42 +111,45 @@ fn pace_from(s: &[u8], map: u8, before: Row) -> Pace
     if period_stands(map) {
         return Pace::Period(u32_at(s, period_place(map)));
     }
-    Pace::Period(default_period(before))
+    Pace::Period(default_period(edition, before))
 }
 
 // A row but for its deadline, whose default goes by the pace. It says nothing of what is wrong with the row.
-fn paced_from(s: &[u8], map: u8) -> Row
+fn paced_from(edition: Edition, s: &[u8], map: u8) -> Row
     requires { ⌜ map ≡ mapOf (now s) ⌝ }
-    ensures { λ r. ⌜ r ≡ pacedFrom (now (s .entry)) ⌝ }
+    ensures { λ r. ⌜ r ≡ pacedFrom edition (now (s .entry)) ⌝ }
 {
     let class = class_of(map);
+    let tagged = tagged_of(edition, map);
     let none = Row {
         class,
+        tagged,
         payload: 0,
         pace: Pace::Period(0),
         deadline: 0,
     };
-    let first = with_payload(s, map, none);
+    let first = with_payload(edition, s, map, none);
     Row {
         class,
+        tagged,
         payload: first.payload,
-        pace: pace_from(s, map, first),
+        pace: pace_from(edition, s, map, first),
         deadline: 0,
     }
 }
 
 // The period of a pace that is out of range may be too long for a deadline.
-fn with_deadline(s: &[u8], map: u8, before: Row) -> Row
+fn with_deadline(edition: Edition, s: &[u8], map: u8, before: Row) -> Row
     requires { ⌜ map ≡ mapOf (now s) ⌝ }
     requires { ⌜ periodOf before ≤ mostPeriod ⌝ }
-    ensures { λ r. ⌜ r ≡ withDeadline (now (s .entry)) before ⌝ }
+    ensures { λ r. ⌜ r ≡ withDeadline edition (now (s .entry)) before ⌝ }
 {
     let mut row = before;
     if deadline_stands(map) {
         row.deadline = u32_at(s, deadline_place(map));
         return row;
     }
-    row.deadline = default_deadline(before) as u32;
+    row.deadline = default_deadline(edition, before) as u32;
     row
 }
 
@@ -188,23 +193,23 @@ fn field_fault(stands: bool, inside: bool, ok: bool, usual: bool, place: usize) 
 }
 
 // What is wrong with the map byte of a row that stands at `at` in the file, and with each of its fields, the last of which starts at most 15 bytes behind the map byte.
-fn map_fault(s: &[u8], at: usize, map: u8) -> Reading
+fn map_fault(edition: Edition, s: &[u8], at: usize, map: u8) -> Reading
     requires { ⌜ map ≡ mapOf (now s) ⌝ }
-    ensures { λ r. ⌜ outcomeOf r ≡ first (mapChecks (now (s .entry)) at) ⌝ }
+    ensures { λ r. ⌜ outcomeOf r ≡ first (mapChecks edition (now (s .entry)) at) ⌝ }
 {
     let of_end = fault_unless(1 <= s.len(), Fault::CutShort, at);
-    let of_bits = fault_unless(reserved_clear(map), Fault::MapBit, at);
+    let of_bits = fault_unless(reserved_clear(edition, map), Fault::MapBit, at);
     let of_paces = fault_unless(!two_paces(map), Fault::TwoPaces, at);
     first_of(of_end, first_of(of_bits, of_paces))
 }
 
-fn payload_fault(s: &[u8], at: usize, map: u8, row: Row) -> Reading
-    requires { ⌜ (map ≡ mapOf (now s)) × (row ≡ pacedFrom (now s)) ⌝ }
+fn payload_fault(edition: Edition, s: &[u8], at: usize, map: u8, row: Row) -> Reading
+    requires { ⌜ (map ≡ mapOf (now s)) × (row ≡ pacedFrom edition (now s)) ⌝ }
     requires { ⌜ at + 15 ≤ 18446744073709551615 ⌝ }
-    ensures { λ r. ⌜ outcomeOf r ≡ first (fieldChecks Payload (now (s .entry)) at) ⌝ }
+    ensures { λ r. ⌜ outcomeOf r ≡ first (fieldChecks edition Payload (now (s .entry)) at) ⌝ }
 {
     let inside = PAYLOAD_PLACE + PAYLOAD_WIDTH <= s.len();
-    let usual = row.payload == default_payload(row);
+    let usual = row.payload == default_payload(edition, row);
     field_fault(
         payload_stands(map),
         inside,
@@ -214,16 +219,16 @@ fn payload_fault(s: &[u8], at: usize, map: u8, row: Row) -> Reading
     )
 }
 
-fn period_fault(s: &[u8], at: usize, map: u8, row: Row) -> Reading
-    requires { ⌜ (map ≡ mapOf (now s)) × (row ≡ pacedFrom (now s)) ⌝ }
+fn period_fault(edition: Edition, s: &[u8], at: usize, map: u8, row: Row) -> Reading
+    requires { ⌜ (map ≡ mapOf (now s)) × (row ≡ pacedFrom edition (now s)) ⌝ }
     requires { ⌜ at + 15 ≤ 18446744073709551615 ⌝ }
-    ensures { λ r. ⌜ outcomeOf r ≡ first (fieldChecks Period (now (s .entry)) at) ⌝ }
+    ensures { λ r. ⌜ outcomeOf r ≡ first (fieldChecks edition Period (now (s .entry)) at) ⌝ }
 {
     let place = period_place(map);
     let inside = place + PERIOD_WIDTH <= s.len();
     let pace = row.pace;
     let period = stated(pace);
-    let usual = period == default_period(row);
+    let usual = period == default_period(edition, row);
     field_fault(
         period_stands(map),
         inside,
@@ -234,10 +239,10 @@ fn period_fault(s: &[u8], at: usize, map: u8, row: Row) -> Reading
 }
 
 // Rate and samples share a bit, and have no default.
-fn rated_fault(s: &[u8], at: usize, map: u8, row: Row) -> Reading
-    requires { ⌜ (map ≡ mapOf (now s)) × (row ≡ pacedFrom (now s)) ⌝ }
+fn rated_fault(edition: Edition, s: &[u8], at: usize, map: u8, row: Row) -> Reading
+    requires { ⌜ (map ≡ mapOf (now s)) × (row ≡ pacedFrom edition (now s)) ⌝ }
     requires { ⌜ at + 15 ≤ 18446744073709551615 ⌝ }
-    ensures { λ r. ⌜ outcomeOf r ≡ first (fieldChecks Rate (now (s .entry)) at ++ fieldChecks Samples (now (s .entry)) at) ⌝ }
+    ensures { λ r. ⌜ outcomeOf r ≡ first (fieldChecks edition Rate (now (s .entry)) at ++ fieldChecks edition Samples (now (s .entry)) at) ⌝ }
 {
     let stands = rate_stands(map);
     let pace = row.pace;
@@ -261,14 +266,14 @@ fn deadline_absent(s: &[u8], at: usize, map: u8) -> Reading
     field_fault(deadline_stands(map), inside, true, false, at + place)
 }
 
-fn deadline_fault(s: &[u8], at: usize, map: u8, paced: Row) -> Reading
-    requires { ⌜ (map ≡ mapOf (now s)) × (paced ≡ pacedFrom (now s)) ⌝ }
+fn deadline_fault(edition: Edition, s: &[u8], at: usize, map: u8, paced: Row) -> Reading
+    requires { ⌜ (map ≡ mapOf (now s)) × (paced ≡ pacedFrom edition (now s)) ⌝ }
     requires { ⌜ at + 15 ≤ 18446744073709551615 ⌝ }
-    ensures { λ r. ⌜ outcomeOf r ≡ judged Deadline (now (s .entry)) at ⌝ }
+    ensures { λ r. ⌜ outcomeOf r ≡ judged edition Deadline (now (s .entry)) at ⌝ }
 {
     let place = deadline_place(map);
     let deadline = u32_at(s, place);
-    let usual = deadline as u64 == default_deadline(paced);
+    let usual = deadline as u64 == default_deadline(edition, paced);
     field_fault(
         deadline_stands(map),
         true,
@@ -279,46 +284,57 @@ fn deadline_fault(s: &[u8], at: usize, map: u8, paced: Row) -> Reading
 }
 
 // The first thing that is wrong with a row that stands at `at` in the file.
-fn row_fault(s: &[u8], at: usize, map: u8, paced: Row) -> Reading
-    requires { ⌜ (map ≡ mapOf (now s)) × (paced ≡ pacedFrom (now s)) ⌝ }
+fn row_fault(edition: Edition, s: &[u8], at: usize, map: u8, paced: Row) -> Reading
+    requires { ⌜ (map ≡ mapOf (now s)) × (paced ≡ pacedFrom edition (now s)) ⌝ }
     requires { ⌜ at + 15 ≤ 18446744073709551615 ⌝ }
-    ensures { λ r. ⌜ outcomeOf r ≡ row (now (s .entry)) at ⌝ }
+    ensures { λ r. ⌜ outcomeOf r ≡ row edition (now (s .entry)) at ⌝ }
 {
-    let of_map = map_fault(s, at, map);
-    let of_payload = payload_fault(s, at, map, paced);
-    let of_period = period_fault(s, at, map, paced);
+    let of_map = map_fault(edition, s, at, map);
+    let of_payload = payload_fault(edition, s, at, map, paced);
+    let of_period = period_fault(edition, s, at, map, paced);
     let of_absence = deadline_absent(s, at, map);
-    let of_rate = rated_fault(s, at, map, paced);
-    let of_deadline = deadline_fault(s, at, map, paced);
+    let of_rate = rated_fault(edition, s, at, map, paced);
+    let of_deadline = deadline_fault(edition, s, at, map, paced);
     let front = first_of(of_map, first_of(of_payload, of_period));
     let rest = first_of(of_absence, first_of(of_rate, of_deadline));
     first_of(front, rest)
 }
 
-fn opens_right(s: &[u8]) -> bool
-    requires { ⌜ headerSize ≤ length (now s) ⌝ }
-    ensures { λ r. ⌜ r ≡ opens (now (s .entry)) ⌝ }
+// Whether a file opens with an edition's letters.
+fn opens_as(edition: Edition, s: &[u8]) -> bool
+    ensures { λ r. ⌜ r ≡ opens edition (now (s .entry)) ⌝ }
 {
-    if s[0] != LETTERS[0] {
+    let own = letters(edition);
+    if byte(s, 0) != own[0] {
         return false;
     }
-    if s[1] != LETTERS[1] {
+    if byte(s, 1) != own[1] {
         return false;
     }
-    if s[2] != LETTERS[2] {
+    if byte(s, 2) != own[2] {
         return false;
     }
-    s[3] == LETTERS[3]
+    byte(s, 3) == own[3]
+}
+
+// The edition that the letters name; AVB1, which refuses them, where they name none.
+fn edition_of(s: &[u8]) -> Edition
+    ensures { λ r. ⌜ r ≡ editionOf (now (s .entry)) ⌝ }
+{
+    if opens_as(Edition::Avb2, s) {
+        return Edition::Avb2;
+    }
+    Edition::Avb1
 }
 
 // Whole, where nothing is wrong with the header.
-fn read_header(s: &[u8]) -> Reading
-    ensures { λ r. ⌜ outcomeOf r ≡ header (now (s .entry)) ⌝ }
+fn read_header(edition: Edition, s: &[u8]) -> Reading
+    ensures { λ r. ⌜ outcomeOf r ≡ header edition (now (s .entry)) ⌝ }
 {
     if s.len() < HEADER_SIZE {
         return Reading::Refused(Fault::CutShort, 0);
     }
-    if !opens_right(s) {
+    if !opens_as(edition, s) {
         return Reading::Refused(Fault::Letters, 0);
     }
     if MOST_SLOPE < u32_at(s, IDLEA_PLACE) {
@@ -357,9 +373,9 @@ fn header_table(s: &[u8]) -> Table
     }
 }
 
-// What is wrong and where, beside a table of zeros.
-fn refused(fault: Fault, place: usize) -> Loaded
-    ensures { λ r. ⌜ r ≡ record { answer = Reading.Refused fault place; table = noTable } ⌝ }
+// What is wrong and where, beside the edition and a table of zeros.
+fn refused(named: Edition, fault: Fault, place: usize) -> Loaded
+    ensures { λ r. ⌜ r ≡ record { answer = Reading.Refused fault place; edition = named; table = noTable } ⌝ }
 {
     let none = no_row();
     let header = Header {
@@ -369,6 +385,7 @@ fn refused(fault: Fault, place: usize) -> Loaded
     };
     Loaded {
         answer: Reading::Refused(fault, place),
+        edition: named,
         table: Table {
             header,
             count: 0,
@@ -378,10 +395,10 @@ fn refused(fault: Fault, place: usize) -> Loaded
 }
 
 // The rows, one behind the other from behind the header on, into the table of the header's values.
-fn read_rows(s: &[u8], start: Table) -> Loaded
-    requires { ⌜ header (now s) ≡ accepted ⌝ }
+fn read_rows(edition: Edition, s: &[u8], start: Table) -> Loaded
+    requires { ⌜ header edition (now s) ≡ accepted ⌝ }
     requires { ⌜ start ≡ tableOf (now s) [] ⌝ }
-    ensures { λ r. ⌜ Reads (now (s .entry)) r ⌝ }
+    ensures { λ r. ⌜ Reads (readAs edition (now (s .entry))) r ⌝ }
 {
     let mut table = start;
     let n = table.count;
@@ -390,30 +407,38 @@ fn read_rows(s: &[u8], start: Table) -> Loaded
     while i < n {
         let part = &s[at..];
         let map = byte(part, 0);
-        let paced = paced_from(part, map);
-        if let Reading::Refused(fault, place) = row_fault(part, at, map, paced) {
-            return refused(fault, place);
+        let paced = paced_from(edition, part, map);
+        if let Reading::Refused(fault, place) = row_fault(edition, part, at, map, paced) {
+            return refused(edition, fault, place);
         }
-        let row = with_deadline(part, map, paced);
+        let row = with_deadline(edition, part, map, paced);
         table.rows[i] = row;
         at += row_size(map);
         i += 1;
     }
     if at < s.len() {
-        return refused(Fault::Trailing, at);
+        return refused(edition, Fault::Trailing, at);
     }
     Loaded {
         answer: Reading::Whole,
+        edition,
         table,
     }
 }
 
-// A file's table, or the first refusal and its place.
-pub fn read(s: &[u8]) -> Loaded
-    ensures { λ r. ⌜ Reads (now (s .entry)) r ⌝ }
+// A file's table in an edition, or the first refusal and its place.
+fn read_as(edition: Edition, s: &[u8]) -> Loaded
+    ensures { λ r. ⌜ Reads (readAs edition (now (s .entry))) r ⌝ }
 {
-    if let Reading::Refused(fault, place) = read_header(s) {
-        return refused(fault, place);
+    if let Reading::Refused(fault, place) = read_header(edition, s) {
+        return refused(edition, fault, place);
     }
-    read_rows(s, header_table(s))
+    read_rows(edition, s, header_table(s))
+}
+
+// A file's edition and table, or the first refusal and its place.
+pub fn read(s: &[u8]) -> Loaded
+    ensures { λ r. ⌜ Reads (readFile (now (s .entry))) r ⌝ }
+{
+    read_as(edition_of(s), s)
 }

@@ -11,7 +11,8 @@ use lib.Seq.{sets}
 use Rattle.table.specs.declared.Pace.{Pace}
 use Rattle.table.specs.declared.Pace.the-variants as paces
 use Rattle.table.specs.declared.Row.{Row}
-use Rattle.tablefile.specs.Layout.{bytesOf, Field, Payload, Period, Deadline, Rate, Samples, rateOf, samplesOf, valueOf, widthOf, defaultPayload, defaultPeriod, defaultDeadline, weightOf, bitOf, classBit, sizeIn, placeOf, rowSize}
+use Rattle.tablefile.specs.declared.Edition.{Edition}
+use Rattle.tablefile.specs.Layout.{bytesOf, Field, Payload, Period, Deadline, Rate, Samples, rateOf, samplesOf, valueOf, widthOf, defaultPayload, defaultPeriod, defaultDeadline, weightOf, bitOf, tagBit, classBit, sizeIn, placeOf, rowSize}
 use Rattle.tablefile.specs.Writing.{bitFor, mapByte, fieldBytes, rowBytes}
 use Rattle.tablefile.proofs.Laws.{bytes-length, field-size, row-length}
 use Rattle.tablewrite.proofs.Stores.{sets-append, sets-next, sets-front}
@@ -66,20 +67,20 @@ module _ (p : List ℕ) (at : ℕ) (b : Bool) where
   part-stored l e h = rw e h
 
 -- ---- the map byte
-module _ (r : Row) where
+module _ (ed : Edition) (r : Row) where
   -- a row with a period states it unless it is the default, and no rate
-  pub period-stated : {p d b : ℕ} → r .pace ≡ paces.Period p → d ≡ defaultPeriod r → b ≡ cond (not (eqb p d)) (weightOf Period) 0 → b ≡ bitFor Period r + bitFor Rate r
+  pub period-stated : {p d b : ℕ} → r .pace ≡ paces.Period p → d ≡ defaultPeriod ed r → b ≡ cond (not (eqb p d)) (weightOf Period) 0 → b ≡ bitFor ed Period r + bitFor ed Rate r
   unfolding defaultPeriod
-  period-stated e ed eb = rw (e, eb, ed) (omega arith)
+  period-stated e ex eb = rw (e, eb, ex) (omega arith)
 
   -- a rated row states its rate, and no period
-  pub rate-stated : {h n : ℕ} → r .pace ≡ paces.Rated h n → weightOf Rate ≡ bitFor Period r + bitFor Rate r
+  pub rate-stated : {h n : ℕ} → r .pace ≡ paces.Rated h n → weightOf Rate ≡ bitFor ed Period r + bitFor ed Rate r
   rate-stated e = rw e refl
 
-  pub map-is : {p d a b e k : ℕ} → p ≡ defaultPayload r → d ≡ defaultDeadline r
-      → a ≡ cond (not (eqb (r .payload) p)) (weightOf Payload) 0 → e ≡ cond (not (eqb (r .deadline) d)) (weightOf Deadline) 0 → b ≡ bitFor Period r + bitFor Rate r → k ≡ classBit (r .class) → a + b + e + k ≡ mapByte r
+  pub map-is : {p d a b e g k : ℕ} → p ≡ defaultPayload ed r → d ≡ defaultDeadline ed r
+      → a ≡ cond (not (eqb (r .payload) p)) (weightOf Payload) 0 → e ≡ cond (not (eqb (r .deadline) d)) (weightOf Deadline) 0 → b ≡ bitFor ed Period r + bitFor ed Rate r → g ≡ tagBit (r .tagged) → k ≡ classBit (r .class) → a + b + e + g + k ≡ mapByte ed r
   unfolding mapByte
-  map-is ep ed ea ee eb ek = rw (ea, eb, ee, ek, ep, ed) (omega arith)
+  map-is ep ex ea ee eb eg ek = rw (ea, eb, ee, eg, ek, ep, ex) (omega arith)
 
 -- ---- a row
 -- the stores so far, from the front on, and where they end
@@ -92,15 +93,15 @@ both : (b : Bool) (p q : List ℕ) → cond b (p ++ q) [] ≡ cond b p [] ++ con
 both true p q = refl
 both false p q = refl
 
-module _ (r : Row) {m : ℕ} (em : m ≡ mapByte r) where
-  pub size-is : {n : ℕ} → n ≡ rowSize m → n ≡ length (rowBytes r)
-  size-is e = e ∙ rw em (sym (row-length r))
+module _ (ed : Edition) (r : Row) {m : ℕ} (em : m ≡ mapByte ed r) where
+  pub size-is : {n : ℕ} → n ≡ rowSize m → n ≡ length (rowBytes ed r)
+  size-is e = e ∙ rw em (sym (row-length ed r))
 
-  pub map-stored : (xs : List ℕ) {x : List ℕ} → x ≡ set xs 0 m → Stored xs x (mapByte r ∷ []) 1
+  pub map-stored : (xs : List ℕ) {x : List ℕ} → x ≡ set xs 0 m → Stored xs x (mapByte ed r ∷ []) 1
   map-stored xs e = record { stores = rw em at e; end = refl }
 
   -- a field lies within the row
-  lies-within : (f : Field) → placeOf f (mapByte r) + sizeIn f (mapByte r) ≤ rowSize (mapByte r)
+  lies-within : (f : Field) → placeOf f (mapByte ed r) + sizeIn f (mapByte ed r) ≤ rowSize (mapByte ed r)
   lies-within Payload = omega arith
   lies-within Period = omega arith
   lies-within Deadline = omega arith
@@ -108,32 +109,32 @@ module _ (r : Row) {m : ℕ} (em : m ≡ mapByte r) where
   lies-within Samples = omega arith
 
   module _ (f : Field) {b : Bool} {at v : ℕ} (eb : b ≡ bitOf f m) (ea : at ≡ placeOf f m) (ev : v ≡ valueOf f r) where
-    part-is : cond b (bytesOf (widthOf f) v) [] ≡ fieldBytes f r
+    part-is : cond b (bytesOf (widthOf f) v) [] ≡ fieldBytes ed f r
     part-is = rw (eb, em, ev) refl
 
-    pub field-room : at + length (cond b (bytesOf (widthOf f) v) []) ≤ length (rowBytes r)
-    field-room = rw (part-is, ea, em, field-size f r, row-length r) (lies-within f)
+    pub field-room : at + length (cond b (bytesOf (widthOf f) v) []) ≤ length (rowBytes ed r)
+    field-room = rw (part-is, ea, em, field-size ed f r, row-length ed r) (lies-within f)
 
-    pub field-stored : {xs x y done : List ℕ} → Stored xs x done (placeOf f (mapByte r)) → y ≡ sets x at (cond b (bytesOf (widthOf f) v) []) → Stored xs y (done ++ fieldBytes f r) (placeOf f (mapByte r) + sizeIn f (mapByte r))
+    pub field-stored : {xs x y done : List ℕ} → Stored xs x done (placeOf f (mapByte ed r)) → y ≡ sets x at (cond b (bytesOf (widthOf f) v) []) → Stored xs y (done ++ fieldBytes ed f r) (placeOf f (mapByte ed r) + sizeIn f (mapByte ed r))
     field-stored {xs} {x} {done = done} e ey =
         record {
-          stores = ey ∙ ap (sets x at) part-is ∙ sets-next done (fieldBytes f r) xs (e .stores) (ea ∙ rw em (sym (e .end)));
-          end = length-append done (fieldBytes f r) ∙ rw (e .end, field-size f r) refl;
+          stores = ey ∙ ap (sets x at) part-is ∙ sets-next done (fieldBytes ed f r) xs (e .stores) (ea ∙ rw em (sym (e .end)));
+          end = length-append done (fieldBytes ed f r) ∙ rw (e .end, field-size ed f r) refl;
         }
 
   -- rate and samples, the last fields, share a bit
   module _ {b : Bool} {at : ℕ} (eb : b ≡ bitOf Rate m) (ea : at ≡ placeOf Rate m) where
-    rated-is : cond b (ratedBytes (r .pace)) [] ≡ fieldBytes Rate r ++ fieldBytes Samples r
+    rated-is : cond b (ratedBytes (r .pace)) [] ≡ fieldBytes ed Rate r ++ fieldBytes ed Samples r
     unfolding bitOf
-    rated-is = rw (eb, em) (both (bitOf Rate (mapByte r)) (bytesOf 4 (rateOf (r .pace))) (bytesOf 1 (samplesOf (r .pace))))
+    rated-is = rw (eb, em) (both (bitOf Rate (mapByte ed r)) (bytesOf 4 (rateOf (r .pace))) (bytesOf 1 (samplesOf (r .pace))))
 
-    pub rated-room : at + length (cond b (ratedBytes (r .pace)) []) ≤ length (rowBytes r)
-    rated-room = rw (rated-is, ea, em, length-append, field-size Rate r, field-size Samples r, row-length r) (omega arith)
+    pub rated-room : at + length (cond b (ratedBytes (r .pace)) []) ≤ length (rowBytes ed r)
+    rated-room = rw (rated-is, ea, em, length-append, field-size ed Rate r, field-size ed Samples r, row-length ed r) (omega arith)
 
-    pub row-stored : (xs : List ℕ) {x y : List ℕ} → length (rowBytes r) ≤ length xs → Stored xs x (mapByte r ∷ fieldBytes Payload r ++ fieldBytes Period r ++ fieldBytes Deadline r) (placeOf Rate (mapByte r))
-        → y ≡ sets x at (cond b (ratedBytes (r .pace)) []) → y ≡ rowBytes r ++ drop (length (rowBytes r)) xs
+    pub row-stored : (xs : List ℕ) {x y : List ℕ} → length (rowBytes ed r) ≤ length xs → Stored xs x (mapByte ed r ∷ fieldBytes ed Payload r ++ fieldBytes ed Period r ++ fieldBytes ed Deadline r) (placeOf Rate (mapByte ed r))
+        → y ≡ sets x at (cond b (ratedBytes (r .pace)) []) → y ≡ rowBytes ed r ++ drop (length (rowBytes ed r)) xs
     unfolding rowBytes
     row-stored xs {x} h e ey =
-        let done = mapByte r ∷ fieldBytes Payload r ++ fieldBytes Period r ++ fieldBytes Deadline r in
-        ey ∙ ap (sets x at) rated-is ∙ sets-next done (fieldBytes Rate r ++ fieldBytes Samples r) xs (e .stores) (ea ∙ rw em (sym (e .end)))
-        ∙ ap (sets xs 0) (sym (append-assoc done (fieldBytes Rate r) (fieldBytes Samples r))) ∙ sets-front (rowBytes r) xs h
+        let done = mapByte ed r ∷ fieldBytes ed Payload r ++ fieldBytes ed Period r ++ fieldBytes ed Deadline r in
+        ey ∙ ap (sets x at) rated-is ∙ sets-next done (fieldBytes ed Rate r ++ fieldBytes ed Samples r) xs (e .stores) (ea ∙ rw em (sym (e .end)))
+        ∙ ap (sets xs 0) (sym (append-assoc done (fieldBytes ed Rate r) (fieldBytes ed Samples r))) ∙ sets-front (rowBytes ed r) xs h

@@ -6,7 +6,7 @@ use cases::crowds;
 use cases::hunt::{Hunt, Way};
 use cases::ports::{full, full_reversed};
 use ithumeco::BOUNDS_SIZE;
-use simulator::{file_of, Call, Port};
+use simulator::{file_of, Call, Edition, Port};
 
 use crate::clock::{compare, Compared};
 use crate::lists::{
@@ -170,7 +170,7 @@ pub fn files() -> [Line<2>; 2] {
                 ithumeco::bounds(&many, &mut bounds).expect("the table has bounds");
             },
             &|| {
-                let table = simulator::read(&many).expect("the file reads");
+                let (_, table) = simulator::read(&many).expect("the file reads");
                 let _ = black_box(simulator::bounds(&table));
             },
         ),
@@ -246,9 +246,10 @@ pub fn calls_behind_many_frames() -> [Line<2>; 2] {
     };
     let (list, most) = up_to_the_most(&table, hunt);
     assert_eq!(most, 58, "the frames that the lines' names speak of");
+    let file = file_of(Edition::Avb1, &table);
     let line = |name, call| {
         let list = [&list[..], &[call].repeat(TIMES)].concat();
-        Line::new(name, replayed(&file_of(&table), &list, TIMES as u64), &[])
+        Line::new(name, replayed(&file, &list, TIMES as u64), &[])
     };
     [
         line(

@@ -3,7 +3,7 @@
 use simulator::port::MOST_ADVANCE;
 use simulator::refusal::refuse;
 use simulator::table::MOST_IN_CLASS;
-use simulator::{Advance, Call, Class, Port, Refusal, Table, Wire};
+use simulator::{Advance, Call, Class, Mark, Port, Refusal, Row, Table, Wire};
 
 /// More calls than any list has.
 const MOST_CALLS: usize = 1_000_000;
@@ -18,6 +18,8 @@ pub struct Driver {
     pub answers: Vec<Result<Advance, Refusal>>,
     /// The bytes left on the wire ahead of each call, 0 where it is free.
     pub lefts: Vec<u64>,
+    /// The row that each call is about, if there is one.
+    pub rows: Vec<Option<Row>>,
 }
 
 /// The bytes left of the frame on a wire, 0 where it is free.
@@ -25,6 +27,24 @@ pub fn left_on(wire: &Wire) -> u64 {
     match wire {
         Wire::Free => 0,
         Wire::Sending(_, left) => *left,
+    }
+}
+
+/// The row that a call is about: the one that it offers to, that joins, or whose
+/// frame its answer reports, the port's rows standing `at` their numbers.
+pub fn row_about(
+    call: Call,
+    answer: Result<Advance, Refusal>,
+    at: impl FnOnce(usize) -> Option<Row>,
+) -> Option<Row> {
+    match call {
+        Call::Offer(number, _) => at(number as usize),
+        Call::Join(_, row) => Some(row),
+        Call::Advance(_) => match answer.ok()?.ended?.mark {
+            Mark::Row(number) => at(number),
+            Mark::BestEffort => None,
+        },
+        Call::OfferBest(_) | Call::Leave(_) => None,
     }
 }
 
@@ -36,12 +56,15 @@ impl Driver {
             calls: Vec::new(),
             answers: Vec::new(),
             lefts: Vec::new(),
+            rows: Vec::new(),
         }
     }
 
     pub fn make(&mut self, call: Call) {
         self.lefts.push(self.left());
         let answer = self.port.make(call);
+        let at = |number| self.port.table.row(number).copied();
+        self.rows.push(row_about(call, answer, at));
         assert_ne!(answer, refuse(18, 0), "no list breaks a port");
         for queue in [&self.port.queue_a, &self.port.queue_b] {
             assert!(queue.len() as u64 <= MOST_IN_CLASS, "a class queue is full");

@@ -271,7 +271,8 @@ impl Field<'_> {
             let size = most.size().min(bytes);
             if size >= LEAST_SIZE {
                 self.join(row);
-                let payload = most.payload.min(size - 42);
+                let around = if most.tagged { 48 } else { 42 };
+                let payload = most.payload.min(size - around);
                 self.driver.make(Call::Offer(row as u64, payload));
                 bytes -= size;
             }

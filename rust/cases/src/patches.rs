@@ -1,7 +1,7 @@
 //! What calls do about rows that come and go, and how often it was met.
 
 use simulator::table::MOST_ROWS;
-use simulator::{Advance, Call, Port, Refusal, Row, Wire};
+use simulator::{Advance, Call, Class, Port, Refusal, Row, Wire};
 
 use crate::driver::Driver;
 
@@ -13,6 +13,8 @@ struct Step<'a> {
     after: &'a Port,
     /// Each number's last taken instant, whichever row it had.
     last: &'a [Option<u64>; MOST_ROWS],
+    /// The row that has left each number last.
+    gone: &'a [Option<Row>; MOST_ROWS],
 }
 
 impl Step<'_> {
@@ -30,6 +32,16 @@ impl Step<'_> {
             Call::Leave(number) if self.answer.is_ok() => Some(number as usize),
             _ => None,
         }
+    }
+
+    /// The row that a join has brought.
+    fn joining(&self) -> Option<&Row> {
+        self.after.table.row(self.joined()?)
+    }
+
+    /// The row that has left.
+    fn leaving(&self) -> Option<&Row> {
+        self.before.table.row(self.left()?)
     }
 
     /// The row count ahead of the call and behind it.
@@ -69,12 +81,23 @@ impl Step<'_> {
         let soon = |last| self.after.clock - last < self.after.table.rows[number].period();
         self.answer.is_ok() && self.last[number].is_some_and(soon)
     }
+
+    /// Whether an offer was taken where a row has left whose frames had a tag and
+    /// this one's have none, or the other way round.
+    fn is_retagged(&self) -> bool {
+        let Call::Offer(number, _) = self.call else {
+            return false;
+        };
+        let number = number as usize;
+        let other = |gone: Row| gone.tagged != self.after.table.rows[number].tagged;
+        self.answer.is_ok() && self.gone[number].is_some_and(other)
+    }
 }
 
 /// A kind's name, and what it is.
 type Kind = (&'static str, fn(&Step) -> bool);
 
-const KINDS: [Kind; 21] = [
+const KINDS: [Kind; 26] = [
     ("a join while a row's frame waits", |step| {
         step.joined().is_some() && step.waits()
     }),
@@ -105,6 +128,24 @@ const KINDS: [Kind; 21] = [
             && rows.any(|(number, row)| {
                 row.class != class && step.before.bounds[number] != step.after.bounds[number]
             })
+    }),
+    ("a join of a tagged row of A", |step| {
+        let is = |row: &Row| row.tagged && row.class == Class::A;
+        step.joining().is_some_and(is)
+    }),
+    ("a join of a tagged row of B", |step| {
+        let is = |row: &Row| row.tagged && row.class == Class::B;
+        step.joining().is_some_and(is)
+    }),
+    ("a join of a tagged row that is the largest", |step| {
+        let is = |row: &Row| row.tagged && row.size() > step.before.table.largest(row.class);
+        step.joining().is_some_and(is)
+    }),
+    ("a leave of a tagged row", |step| {
+        step.leaving().is_some_and(|row| row.tagged)
+    }),
+    ("an offer where a row had another tag", |step| {
+        step.is_retagged()
     }),
     ("an offer soon after another row's", |step| step.is_soon()),
     ("an offer to an empty number", |step| {
@@ -163,17 +204,20 @@ impl Kinds {
 }
 
 /// Calls on a port, one after the other: the port behind the last of them, and
-/// each number's last taken instant, whichever row it had.
+/// each number's last taken instant, whichever row it had, with the row that has
+/// left it last.
 pub struct Course {
     port: Port,
     last: [Option<u64>; MOST_ROWS],
+    gone: [Option<Row>; MOST_ROWS],
 }
 
 impl Course {
     pub fn new(port: &Port) -> Course {
         let port = port.clone();
         let last = std::array::from_fn(|number| port.table.row(number).and(port.last[number]));
-        Course { port, last }
+        let gone = [None; MOST_ROWS];
+        Course { port, last, gone }
     }
 
     /// A call with its answer, and the port behind it.
@@ -190,12 +234,17 @@ impl Course {
             answer,
             after,
             last: &self.last,
+            gone: &self.gone,
         };
         for (count, (_, is)) in kinds.0.iter_mut().zip(KINDS) {
             *count += u64::from(is(&step));
         }
-        if let (Call::Offer(number, _), Ok(_)) = (call, answer) {
-            self.last[number as usize] = Some(after.clock);
+        match (call, answer) {
+            (Call::Offer(number, _), Ok(_)) => self.last[number as usize] = Some(after.clock),
+            (Call::Leave(number), Ok(_)) => {
+                self.gone[number as usize] = self.port.table.row(number as usize).copied();
+            }
+            _ => (),
         }
         self.port.clone_from(after);
     }

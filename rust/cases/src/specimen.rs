@@ -34,6 +34,7 @@ pub fn table() -> Table {
 /// are then 5630, 5030, 4944 and 4730, without it 3730, 3130 and 4844.
 pub const FOURTH: Row = Row {
     class: Class::A,
+    tagged: false,
     payload: 358,
     pace: Pace::Period(15_625),
     deadline: 15_625,

@@ -2,7 +2,7 @@
 
 use std::iter;
 
-use simulator::file::{default_period, DEFAULT_PAYLOAD};
+use simulator::file::{default_payload, default_period};
 use simulator::table::{
     accept, D, DEADLINE_RANGE, MOST_IDLE_TOGETHER, MOST_IN_CLASS, MOST_ROWS, PAYLOAD_RANGE,
     PERIOD_RANGE, RATE_RANGE, SAMPLES_RANGE, SECOND,
@@ -26,6 +26,7 @@ const MOST_PROPOSALS: usize = 100_000;
 pub fn row(class: Class, payload: u64, period: u64, deadline: u64) -> Row {
     Row {
         class,
+        tagged: false,
         payload,
         pace: Pace::Period(period),
         deadline,
@@ -37,9 +38,18 @@ pub fn rated(class: Class, payload: u64, rate: u64, samples: u64) -> Row {
     let pace = Pace::Rated { rate, samples };
     Row {
         class,
+        tagged: false,
         payload,
         pace,
         deadline: pace.period(),
+    }
+}
+
+/// A row with a tag in its frames.
+pub fn tagged(row: Row) -> Row {
+    Row {
+        tagged: true,
+        ..row
     }
 }
 
@@ -89,6 +99,7 @@ pub fn joining(random: &mut Random, table: &Table, number: usize) -> Row {
     let beside = random.pick(&in_use);
     let payload = payload(random, beside.payload);
     let mut joining = row(beside.class, payload, LONGEST, LATEST);
+    joining.tagged = random.one_in(3);
     let figures = table.figures(beside.class);
     let rest = figures.idle.saturating_sub(figures.shares).max(1);
     let least = (D * joining.size()).div_ceil(rest);
@@ -174,8 +185,9 @@ fn proposed_tight(random: &mut Random, class: Class, most: u64, periods: Periods
     };
     let size = payload(random, LARGEST);
     let mut table = unfitted(random, counts, idles);
+    let tagged = table.rows.iter().any(|row| row.tagged);
     for row in table.rows.iter_mut().filter(|row| row.class == class) {
-        row.payload = size;
+        (row.payload, row.tagged) = (size, tagged);
     }
     fit(random, &mut table, periods);
     table
@@ -272,12 +284,18 @@ fn payload(random: &mut Random, most: u64) -> u64 {
     }
 }
 
-/// Rows in any order with payloads, and periods and deadlines of no meaning.
+/// Rows in any order with payloads, and periods and deadlines of no meaning. In
+/// half of the tables, those meant for AVB2, a third of them is tagged.
 fn unfitted(random: &mut Random, counts: (u64, u64), idles: (u64, u64)) -> Table {
+    let for_avb2 = random.one_in(2);
     let mut rows = Vec::new();
     for (class, count) in [(Class::A, counts.0), (Class::B, counts.1)] {
         for _ in 0..count {
-            rows.push(row(class, payload(random, LARGEST), LONGEST, LONGEST));
+            let untagged = row(class, payload(random, LARGEST), LONGEST, LONGEST);
+            rows.push(Row {
+                tagged: for_avb2 && random.one_in(3),
+                ..untagged
+            });
         }
     }
     random.shuffle(&mut rows);
@@ -350,7 +368,7 @@ fn near_rate(random: &mut Random, period: u64) -> Pace {
 pub fn set_defaults(random: &mut Random, table: &mut Table) {
     for row in &mut table.rows {
         if random.one_in(3) {
-            row.payload = DEFAULT_PAYLOAD;
+            row.payload = default_payload(row.tagged);
         }
         if random.one_in(3) {
             let period = default_period(row.class);
@@ -413,14 +431,17 @@ pub fn change(random: &mut Random, table: &mut Table) {
 fn change_row(random: &mut Random, table: &mut Table, place: usize) {
     let off = random.between(0, 1);
     let class = table.rows[place].class;
-    match random.below(8) {
+    match random.below(9) {
         0 => late(table, place, off),
         1 => table.rows[place].class = opposite(class),
         2 => {
             let edges = [83, 84, 15_625, 31_250, LONGEST, LONGEST + 1];
             table.rows[place].pace = Pace::Period(random.pick(&edges));
         }
-        3 => table.rows[place].payload = random.pick(&[0, 42, 43, 1500, 1501, 65_535]),
+        3 => {
+            let edges = [0, 36, 37, 42, 43, 1500, 1501, 65_535];
+            table.rows[place].payload = random.pick(&edges);
+        }
         4 => {
             let period = table.rows[place].period();
             let edges = [0, 1, period, period + 1, LATEST, LATEST + 1];
@@ -428,6 +449,7 @@ fn change_row(random: &mut Random, table: &mut Table, place: usize) {
         }
         5 => table.rows[place].pace = rated_edge(random),
         6 => crowd(random, table, place, off),
+        7 => table.rows[place].tagged ^= true,
         _ => table.rows[place] = Row::EMPTY,
     }
 }

@@ -65,7 +65,7 @@ fn any_unused(random: &mut Random, table: &Table) -> Option<usize> {
 fn any_payload(random: &mut Random, most: u64) -> u64 {
     match random.below(8) {
         0 => most + 1,
-        1 => random.pick(&[0, 42, 43, 1501, 65_536, 1 << 32, u64::MAX]),
+        1 => random.pick(&[0, 36, 37, 42, 43, 1501, 65_536, 1 << 32, u64::MAX]),
         2 => random.between(0, most),
         _ => most,
     }

@@ -53,6 +53,7 @@ struct Taken {
 pub struct Reported {
     pub row: usize,
     pub class: Class,
+    pub tagged: bool,
     /// The byte-times from its offer to its report.
     pub age: u64,
     /// Its row's bound when it was taken, and the largest from then on.
@@ -111,11 +112,16 @@ impl Watch {
         }
     }
 
-    /// A frame that is taken now, its size worked out from the payload.
+    /// A frame that is taken now, its size worked out from the payload and, with
+    /// its tag or without, from the row that has the number.
     fn frame(&self, mark: Mark, payload: u64) -> Frame {
+        let size = match mark {
+            Mark::Row(row) => self.table.rows[row].size_of(payload),
+            Mark::BestEffort => wire_size(payload),
+        };
         Frame {
             mark,
-            size: wire_size(payload),
+            size,
             instant: self.clock,
         }
     }
@@ -255,13 +261,14 @@ impl Watch {
         hold(age <= limit, || {
             format!("row {row}'s frame is reported at {age}, its limit is {limit}")
         })?;
-        let class = self.table.rows[row].class;
+        let Row { class, tagged, .. } = self.table.rows[row];
         let cost = self.table.send(class) * frame.size;
         let back = self.clock + GAP + cost.div_ceil(self.table.idle(class));
         self.paid = self.paid.max(back);
         self.reported.push(Reported {
             row,
             class,
+            tagged,
             age,
             bound,
             limit,

@@ -2,10 +2,11 @@
 
 use std::collections::BTreeSet;
 
+use cases::files::any_edition;
 use cases::random::Random;
 use cases::tables;
 use simulator::table::accept;
-use simulator::{open, Class, Pace, Row};
+use simulator::{open, Class, Edition, Pace, Row};
 
 fn is_rated(row: &Row) -> bool {
     matches!(row.pace, Pace::Rated { .. })
@@ -25,6 +26,33 @@ fn accepted_tables_have_rows_of_each_pace() {
     println!("{rated} of {rows} rows name a rate; {mixed} of 1000 tables have both");
     assert!(rated > rows / 4 && rows - rated > rows / 4);
     assert!(mixed > 400);
+}
+
+#[test]
+fn accepted_tables_have_tagged_rows_in_half_of_them() {
+    let mut random = Random::new(23);
+    let (mut rows, mut of_avb1, mut of_avb2) = (0, 0, 0);
+    let (mut tagged, mut largest) = ([0; 2], [0; 2]);
+    for _ in 0..2000 {
+        let table = tables::lively(&mut random);
+        match any_edition(&mut random, &table) {
+            Edition::Avb1 => of_avb1 += 1,
+            Edition::Avb2 => of_avb2 += 1,
+        }
+        rows += table.rows.len();
+        for row in table.rows.iter().filter(|row| row.tagged) {
+            tagged[row.class as usize] += 1;
+            // A tag that the largest frame of the class has.
+            let is_largest = row.size() == table.largest(row.class) && row.size() > 84;
+            largest[row.class as usize] += usize::from(is_largest);
+        }
+    }
+    println!("{of_avb1} tables for AVB1, {of_avb2} for AVB2");
+    println!("of {rows} rows {tagged:?} are tagged in A and B, {largest:?} the largest");
+    assert!(of_avb1 > 500 && of_avb2 > 800);
+    let both: usize = tagged.iter().sum();
+    assert!((rows / 9..rows / 4).contains(&both));
+    assert!(tagged.iter().chain(&largest).all(|&count| count > 150));
 }
 
 #[test]

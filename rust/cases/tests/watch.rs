@@ -5,11 +5,12 @@ use cases::driver::Driver;
 use cases::hunt::Hunt;
 use cases::random::Random;
 use cases::specimen::{table, FOURTH};
-use cases::tables;
+use cases::tables::{self, tagged};
+use cases::tags;
 use cases::traffic::{dense_calls, patched_calls, random_calls};
 use cases::watch::{Seen, Watch};
 use simulator::refusal::refuse;
-use simulator::{bounds, Advance, Call, Frame, Mark, Pace, Refusal, Row, TAKEN};
+use simulator::{bounds, Advance, Call, Frame, Mark, Pace, Refusal, Row, Table, TAKEN};
 
 fn watched(driver: &Driver) -> Seen {
     let bounds = bounds(&driver.opened).unwrap();
@@ -81,7 +82,12 @@ fn wrong(place: usize, answer: Result<Advance, Refusal>) {
 
 /// A list on the specimen's port with another answer at a place is wrong there.
 fn wrong_in(calls: &[Call], place: usize, answer: Result<Advance, Refusal>) {
-    let mut driver = Driver::new(table());
+    wrong_on(table(), calls, place, answer);
+}
+
+/// The same on another table's port.
+fn wrong_on(table: Table, calls: &[Call], place: usize, answer: Result<Advance, Refusal>) {
+    let mut driver = Driver::new(table);
     calls.iter().for_each(|&call| driver.make(call));
     assert_eq!(watched(&driver), Ok(()));
     assert_ne!(driver.answers[place], answer);
@@ -421,4 +427,82 @@ fn offers_follow_the_joins_and_leaves() {
     wrong(14, refuse(13, 0));
     // A frame whose row has left was reported: it is not again.
     wrong(16, ended(388, Mark::Row(3), 400, 0));
+}
+
+/// A frame's size is worked out with the tag of its row or without, and best
+/// effort's without.
+#[test]
+fn a_tagged_rows_frame_has_its_tag() {
+    let offers = [
+        (Call::Offer(0, 58), Mark::Row(0), 106),
+        (Call::Offer(0, 36), Mark::Row(0), 84),
+        (Call::Offer(0, 37), Mark::Row(0), 85),
+        (Call::Offer(1, 258), Mark::Row(1), 300),
+        (Call::Offer(2, 458), Mark::Row(2), 506),
+        (Call::Offer(3, 36), Mark::Row(3), 84),
+        (Call::OfferBest(1500), Mark::BestEffort, 1542),
+    ];
+    for (offer, mark, size) in offers {
+        let calls = [offer, Call::Advance(65_535)];
+        let reported = |size| ended(size - 12, mark, size, 0);
+        let mut driver = Driver::new(tags::table());
+        calls.iter().for_each(|&call| driver.make(call));
+        assert_eq!(driver.answers[1], reported(size));
+        // 6 bytes fewer or more.
+        for other in [size - 6, size + 6] {
+            wrong_on(tags::table(), &calls, 1, reported(other));
+        }
+    }
+}
+
+/// The row that has the number when a frame is offered: a row that joins there
+/// later may have another tag.
+#[test]
+fn a_joined_rows_frame_has_its_tag() {
+    let calls = |joining| {
+        [
+            Call::Join(3, FOURTH),
+            Call::Leave(3),
+            Call::Join(3, joining),
+            Call::Offer(3, 358),
+            Call::Advance(65_535),
+        ]
+    };
+    let reported = |size| ended(size - 12, Mark::Row(3), size, 0);
+    wrong_in(&calls(tagged(FOURTH)), 4, reported(400));
+    wrong_in(&calls(FOURTH), 4, reported(406));
+    // Its credit is back 1,218 byte-times behind the frame.
+    let with_leave = |n: u64| {
+        let rest = [Call::Advance(12 + n), Call::Leave(3)];
+        [&calls(tagged(FOURTH))[..], &rest].concat()
+    };
+    wrong_in(&with_leave(1218), 6, refuse(21, 0));
+    let mut driver = Driver::new(table());
+    with_leave(1217).iter().for_each(|&call| driver.make(call));
+    assert_eq!(driver.answers[6], refuse(21, 0));
+    assert_eq!(watched(&driver), Ok(()));
+}
+
+#[test]
+fn tagged_frames_are_held_to_their_bounds() {
+    let reported = |row: usize, age| {
+        let table = tags::table();
+        let (payload, size) = (table.rows[row].payload, table.rows[row].size());
+        let steps = [
+            (Call::Offer(row as u64, payload), Ok(TAKEN)),
+            (Call::Advance(age), ended(age, Mark::Row(row), size, 0)),
+        ];
+        Watch::new(&table, &bounds(&table).unwrap()).see_all(steps.into_iter())
+    };
+    for (row, size, bound) in [
+        (0, 106, 3736),
+        (1, 300, 3154),
+        (2, 506, 5294),
+        (3, 84, 6982),
+    ] {
+        assert!(reported(row, size - 13).is_err());
+        assert_eq!(reported(row, size - 12), Ok(()));
+        assert_eq!(reported(row, bound), Ok(()));
+        assert!(reported(row, bound + 1).is_err());
+    }
 }

@@ -2,10 +2,11 @@
 //! the simulator.
 
 use ithumeco::{
-    put_words, words, Answer, Record, RowWords, ANSWER_SIZE, BOUNDS_SIZE, CALL_SIZE, RECORD_SIZE,
+    number_of, put_words, words, Answer, Record, RowWords, ANSWER_SIZE, BOUNDS_SIZE, CALL_SIZE,
+    RECORD_SIZE,
 };
 use simulator::refusal::refuse;
-use simulator::{opened, Call, Port, Refusal};
+use simulator::{opened, Call, Edition, Port, Refusal};
 
 use crate::readable::{joining_of, port_of};
 
@@ -19,15 +20,20 @@ fn room(buffer: &[u8], size: usize) -> Outcome {
     Ok(())
 }
 
-pub fn rewrite(file: &[u8], copy: &mut [u8]) -> Outcome {
-    let table = simulator::read(file)?;
-    simulator::write(&table, copy)?;
-    Ok(())
+pub fn rewrite(file: &[u8], edition: u64, copy: &mut [u8]) -> Result<u64, Refusal> {
+    // 104, a number of no edition.
+    let mut editions = Edition::ALL.into_iter();
+    let Some(edition) = editions.find(|&one| number_of(one) == edition) else {
+        return refuse(104, 0);
+    };
+    let (_, table) = simulator::read(file)?;
+    let size = simulator::write(edition, &table, copy)?;
+    Ok(size as u64)
 }
 
 pub fn bounds(file: &[u8], out: &mut [u8]) -> Outcome {
     room(out, BOUNDS_SIZE)?;
-    let table = simulator::read(file)?;
+    let (_, table) = simulator::read(file)?;
     put_words(&simulator::bounds(&table)?, out);
     Ok(())
 }
@@ -89,21 +95,14 @@ pub fn call_of(bytes: &[u8]) -> Option<Call> {
     let words: Vec<u64> = words(bytes).collect();
     match words[..] {
         _ if bytes.len() != CALL_SIZE => None,
-        [0, row, payload, 0, 0, 0, 0, 0] => Some(Call::Offer(row, payload)),
-        [1, payload, 0, 0, 0, 0, 0, 0] => Some(Call::OfferBest(payload)),
-        [2, n, 0, 0, 0, 0, 0, 0] => Some(Call::Advance(n)),
-        [3, number, class, payload, deadline, rated, pace, samples] => {
-            let row = joining_of(&RowWords {
-                class,
-                payload,
-                deadline,
-                rated,
-                pace,
-                samples,
-            });
+        [0, row, payload, 0, 0, 0, 0, 0, 0] => Some(Call::Offer(row, payload)),
+        [1, payload, 0, 0, 0, 0, 0, 0, 0] => Some(Call::OfferBest(payload)),
+        [2, n, 0, 0, 0, 0, 0, 0, 0] => Some(Call::Advance(n)),
+        [3, number, ref row @ ..] => {
+            let row = joining_of(&RowWords::of(row.try_into().ok()?));
             Some(Call::Join(number, row?))
         }
-        [4, number, 0, 0, 0, 0, 0, 0] => Some(Call::Leave(number)),
+        [4, number, 0, 0, 0, 0, 0, 0, 0] => Some(Call::Leave(number)),
         _ => None,
     }
 }

@@ -3,9 +3,10 @@
 use std::collections::VecDeque;
 
 use ithumeco::{
-    words, FrameWords, LastWords, QueueWords, Record, RowWords, WireWords, RECORD_SIZE, VERSION,
-    WORD_SIZE,
+    words, FrameWords, LastWords, QueueWords, Record, RowWords, WireWords, RECORD_SIZE, ROW_WORDS,
+    VERSION, WORD_SIZE,
 };
+use simulator::table::MOST_ROWS;
 use simulator::{Class, Frame, Mark, Pace, Port, Row, Table, Wire};
 
 const U8: u64 = u8::MAX as u64;
@@ -14,6 +15,9 @@ const U32: u64 = u32::MAX as u64;
 
 /// A record's last words: the wire's mark, the frame's three and its bytes left.
 const WIRE_WORDS: usize = 5;
+
+/// Where a record has its row count, in words. Its rows are behind it.
+const COUNT_WORD: usize = 4;
 
 /// The bytes left on a record's wire, 0 where it is free or there is no record.
 pub fn left_of(record: &[u8]) -> u64 {
@@ -25,6 +29,25 @@ pub fn left_of(record: &[u8]) -> u64 {
         (Some(1), Some(left)) => left,
         _ => 0,
     }
+}
+
+/// The words of a record's rows below its row count, none if there is no record.
+pub fn rows_in(record: &[u8]) -> impl Iterator<Item = RowWords> + '_ {
+    let record = record.first_chunk::<RECORD_SIZE>();
+    let mut words = record.into_iter().flat_map(|record| words(record));
+    let count = words.nth(COUNT_WORD).unwrap_or(0).min(MOST_ROWS as u64);
+    (0..count).map_while(move |_| {
+        let mut row = [0; ROW_WORDS];
+        for place in &mut row {
+            *place = words.next()?;
+        }
+        Some(RowWords::of(row))
+    })
+}
+
+/// The row at a number of a record, none if the words there name none.
+pub fn row_in(record: &[u8], number: usize) -> Option<Row> {
+    rows_in(record).nth(number).and_then(|row| row_of(&row))
 }
 
 /// The port that a record names, none if a word in use does not fit its field. A
@@ -81,6 +104,11 @@ fn row_of(row: &RowWords) -> Option<Row> {
             1 => Class::B,
             _ => return None,
         },
+        tagged: match row.tagged {
+            0 => false,
+            1 => true,
+            _ => return None,
+        },
         payload: fitting(row.payload, U16)?,
         pace: match row.rated {
             0 => Pace::Period(fitting(row.pace, U32)?),
@@ -118,7 +146,7 @@ fn queue_of<const PLACES: usize>(queue: &QueueWords<PLACES>) -> Option<VecDeque<
 }
 
 fn wire_of(wire: &WireWords) -> Option<Wire> {
-    match wire.tag {
+    match wire.sending {
         0 => Some(Wire::Free),
         1 => Some(Wire::Sending(
             frame_of(&wire.frame)?,

@@ -43,7 +43,7 @@ impl Port {
         }
         let frame = Frame {
             source: place as u32,
-            size: wire_size(payload as u16) as u32,
+            size: row.size_of(payload as u16) as u32,
             taken: self.clock,
         };
         match row.class {

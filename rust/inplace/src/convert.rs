@@ -58,6 +58,7 @@ fn table_of(table: &simulator::Table) -> Option<Table> {
 pub(crate) fn row_of(row: &simulator::Row) -> Option<Row> {
     Some(Row {
         class: row.class,
+        tagged: row.tagged,
         payload: row.payload.try_into().ok()?,
         pace: match row.pace {
             simulator::Pace::Period(period) => Pace::Period(period.try_into().ok()?),
@@ -127,6 +128,7 @@ impl From<Row> for simulator::Row {
     fn from(row: Row) -> simulator::Row {
         simulator::Row {
             class: row.class,
+            tagged: row.tagged,
             payload: row.payload.into(),
             pace: match row.pace {
                 Pace::Period(period) => simulator::Pace::Period(period.into()),

@@ -22,6 +22,7 @@ pub enum Pace {
 #[derive(Clone, Copy, Debug, PartialEq, Eq)]
 pub struct Row {
     pub class: Class,
+    pub tagged: bool,
     pub payload: u16,
     pub pace: Pace,
     pub deadline: u32,
@@ -77,15 +78,19 @@ pub struct Port {
     pub wire: Wire,
 }
 
-/// The wire size of a payload.
+/// The wire size of a payload in a frame without a tag.
 pub(crate) fn wire_size(payload: u16) -> u64 {
     42 + u64::from(payload).max(42)
 }
+
+/// A tag's bytes.
+const TAG: u64 = 6;
 
 impl Row {
     /// What stands at an empty number.
     pub const EMPTY: Row = Row {
         class: Class::A,
+        tagged: false,
         payload: 0,
         pace: Pace::Period(0),
         deadline: 0,
@@ -93,7 +98,14 @@ impl Row {
 
     /// C, the wire size.
     pub(crate) fn size(&self) -> u64 {
-        wire_size(self.payload)
+        self.size_of(self.payload)
+    }
+
+    /// The wire size of the row's frame with a payload: a tag takes the place of
+    /// padding, as far as there is some.
+    pub(crate) fn size_of(&self, payload: u16) -> u64 {
+        let tag = if self.tagged { TAG } else { 0 };
+        42 + (u64::from(payload) + tag).max(42)
     }
 
     /// P, the period of a row in range.

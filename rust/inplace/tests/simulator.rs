@@ -10,13 +10,14 @@ use cases::hunt::Hunt;
 use cases::ports;
 use cases::random::Random;
 use cases::rates;
-use cases::tables::{self, rated, row};
+use cases::tables::{self, rated, row, tagged};
+use cases::tags;
 use cases::traffic::{any_call, TRAFFIC};
 use inplace::{Frame, Pace, Port, Queue, Row};
 use simulator::port::{CLAUSES, LAST_CLOCK, MOST_BEST};
 use simulator::refusal::refuse;
 use simulator::table::accept;
-use simulator::{broken, Call, Class, Mark, Table, Wire};
+use simulator::{broken, wire_size, Call, Class, Mark, Table, Wire};
 
 /// A port of the simulator and two records of it: with zeros in the places that
 /// are not in use, and with junk.
@@ -61,6 +62,7 @@ fn any_row(random: &mut Random) -> Row {
     ];
     Row {
         class: random.pick(&[Class::A, Class::B]),
+        tagged: random.one_in(2),
         payload: random.word() as u16,
         pace: random.pick(&paces),
         deadline: random.word() as u32,
@@ -110,7 +112,8 @@ fn lists() {
             drivers.push(driver);
         }
     }
-    for table in crowds::all().into_iter().chain([rates::table()]) {
+    let fixed = [rates::table(), tags::table()];
+    for table in crowds::all().into_iter().chain(fixed) {
         for hunt in Hunt::all(&table) {
             let mut driver = Driver::new(table.clone());
             hunt.run(&mut driver);
@@ -119,7 +122,17 @@ fn lists() {
         }
     }
     let (mut seen, mut most) = (BTreeSet::new(), 0);
+    let (mut offered, mut joined) = ([0; 2], [0; 2]);
     for driver in drivers {
+        let about = driver.calls.iter().zip(&driver.rows).zip(&driver.answers);
+        for ((call, row), _) in about.filter(|(_, answer)| answer.is_ok()) {
+            let tagged = row.filter(|row| row.tagged).map(|row| row.class as usize);
+            match (call, tagged) {
+                (Call::Offer(..), Some(class)) => offered[class] += 1,
+                (Call::Join(..), Some(class)) => joined[class] += 1,
+                _ => (),
+            }
+        }
         let fresh = simulator::Port::fresh(driver.opened);
         let mut held = Held::new(&mut random, &fresh).expect("a table that fits");
         for call in driver.calls {
@@ -131,6 +144,9 @@ fn lists() {
     let expected = of_patches.into_iter().chain([0, 11, 12, 13, 14, 15]);
     assert_eq!(seen, expected.collect());
     assert!(most > 50, "{most} frames of B at once");
+    println!("{offered:?} frames with a tag and {joined:?} joins of tagged rows in A and B");
+    assert!(offered.iter().all(|&count| count > 2000));
+    assert!(joined.iter().all(|&count| count > 200));
 }
 
 /// A sound port of any kind.
@@ -214,6 +230,54 @@ fn tables_at_the_edges() {
     let others = [3, 5, 8, 10].map(|number| (number, ""));
     let expected = of_9.into_iter().chain(of_20).chain(others);
     assert_eq!(seen, expected.collect());
+}
+
+/// Offers with each payload there is, to rows with a tag and without.
+#[test]
+fn sizes_of_every_payload() {
+    let mut random = Random::new(23);
+    let of_1500 = |class| row(class, 1500, 1_000_000, 1_000_000);
+    let mut table = tags::table();
+    table.rows = [Class::A, Class::B].map(of_1500).to_vec();
+    table
+        .rows
+        .extend(table.rows.clone().into_iter().map(tagged));
+    let fresh = simulator::Port::fresh(table);
+    for payload in 0..=1501 {
+        let mut held = Held::new(&mut random, &fresh).expect("a table that fits");
+        for number in 0..4 {
+            held.make(Call::Offer(number, payload));
+        }
+    }
+}
+
+/// A frame that is longer than it would be without its row's tag, up to its
+/// row's size and one byte longer.
+#[test]
+fn frames_as_long_as_their_tag_lets_them_be() {
+    let mut random = Random::new(24);
+    let mut longer = 0;
+    for _ in 0..1000 {
+        let table = tables::lively(&mut random);
+        let sound = ports::made_up(&mut random, table);
+        for more in [0, 1] {
+            let mut port = sound.clone();
+            for frame in port.queue_a.iter_mut().chain(&mut port.queue_b) {
+                let Mark::Row(number) = frame.mark else {
+                    continue;
+                };
+                let row = port.table.rows[number];
+                frame.size = row.size() + more;
+                longer += u32::from(frame.size > wire_size(row.payload) && more == 0);
+            }
+            let held = Held::new(&mut random, &port).expect("a port that fits");
+            let frames = port.queue_a.len() + port.queue_b.len();
+            let is_broken = broken(&held.theirs).is_some();
+            assert_eq!(is_broken, more == 1 && frames > 0);
+        }
+    }
+    println!("{longer} frames that are longer by their tag");
+    assert!(longer > 500);
 }
 
 /// A sound port with as many frames as its table lets there be.

@@ -6,7 +6,7 @@ use crate::records::RowWords;
 use crate::words::{put_words, WORD_SIZE};
 
 /// The size of a call in words.
-pub const CALL_WORDS: usize = 8;
+pub const CALL_WORDS: usize = 9;
 
 /// The size of a call in bytes.
 pub const CALL_SIZE: usize = CALL_WORDS * WORD_SIZE;
@@ -22,13 +22,16 @@ pub fn call_bytes(call: Call) -> [u8; CALL_SIZE] {
         Call::Join(number, row) => {
             let RowWords {
                 class,
+                tagged,
                 payload,
                 deadline,
                 rated,
                 pace,
                 samples,
             } = RowWords::from(&row);
-            put(&[3, number, class, payload, deadline, rated, pace, samples]);
+            put(&[
+                3, number, class, tagged, payload, deadline, rated, pace, samples,
+            ]);
         }
         Call::Leave(number) => put(&[4, number]),
     }

@@ -1,6 +1,6 @@
 //! The static library's functions, on slices.
 
-use simulator::Refusal;
+use simulator::{Edition, Refusal};
 
 /// The size of 32 bounds in bytes.
 pub const BOUNDS_SIZE: usize = 256;
@@ -34,18 +34,40 @@ extern "C" {
         bounds_size: usize,
     ) -> u64;
 
-    fn ithumeco_rewrite(file: *const u8, file_size: usize, copy: *mut u8, copy_size: usize) -> u64;
+    fn ithumeco_rewrite(
+        file: *const u8,
+        file_size: usize,
+        edition: u64,
+        copy: *mut u8,
+        copy_size: usize,
+    ) -> u64;
 }
 
-/// A code is 0, or a refusal's number and 256 times its place.
-fn outcome(code: u64) -> Result<(), Refusal> {
-    match code {
-        0 => Ok(()),
-        _ => Err(Refusal {
-            number: (code % 256) as u8,
+/// The number of an edition.
+pub fn number_of(edition: Edition) -> u64 {
+    match edition {
+        Edition::Avb1 => 1,
+        Edition::Avb2 => 2,
+    }
+}
+
+/// A code is a refusal's number and 256 times its place. Where nothing is refused
+/// the number is 0, and in the place stands what the function tells.
+fn told(code: u64) -> Result<u64, Refusal> {
+    match (code % 256) as u8 {
+        0 => Ok(code / 256),
+        number => Err(Refusal {
+            number,
             place: code / 256,
         }),
     }
+}
+
+/// The code of a function that tells nothing more.
+fn outcome(code: u64) -> Result<(), Refusal> {
+    let more = told(code)?;
+    assert_eq!(more, 0, "a code without a refusal");
+    Ok(())
 }
 
 /// Makes a list of calls on the fresh port of a table file.
@@ -92,8 +114,17 @@ pub fn bounds(file: &[u8], bounds: &mut [u8]) -> Result<(), Refusal> {
     })
 }
 
-/// Reads a table file and writes it again.
-pub fn rewrite(file: &[u8], copy: &mut [u8]) -> Result<(), Refusal> {
+/// Reads a table file and writes it again, in the edition that has a number. Tells
+/// the length of what is written.
+pub fn rewrite(file: &[u8], edition: u64, copy: &mut [u8]) -> Result<u64, Refusal> {
     // SAFETY: each pointer has its length, and only `copy` is written.
-    outcome(unsafe { ithumeco_rewrite(file.as_ptr(), file.len(), copy.as_mut_ptr(), copy.len()) })
+    told(unsafe {
+        ithumeco_rewrite(
+            file.as_ptr(),
+            file.len(),
+            edition,
+            copy.as_mut_ptr(),
+            copy.len(),
+        )
+    })
 }

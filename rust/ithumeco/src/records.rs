@@ -7,25 +7,45 @@ use simulator::{Class, Frame, Pace, Port, Row, Wire};
 use crate::words::{put_words, words, WORD_SIZE};
 
 /// The version of the layout and of what its words say, a record's first word.
-pub const VERSION: u64 = 1_000_005;
+pub const VERSION: u64 = 1_000_006;
 
 /// The size of a record in words.
-pub const RECORD_WORDS: usize = 736;
+pub const RECORD_WORDS: usize = 768;
 
 /// The size of a record in bytes.
 pub const RECORD_SIZE: usize = RECORD_WORDS * WORD_SIZE;
 
-/// A row: class (0 A, 1 B), payload, deadline; a mark, 1 if it names a sample
-/// rate, else 0; the rate or the period; and behind a rate the samples. Those of
-/// an empty number are zeros, the samples anything.
+/// A row: class (0 A, 1 B); a mark, 1 if it is tagged, else 0; payload, deadline;
+/// a mark, 1 if it names a sample rate, else 0; the rate or the period; and behind
+/// a rate the samples. Those of an empty number are zeros, the samples anything.
 #[derive(Clone, Copy, Debug, Default, PartialEq, Eq)]
 pub struct RowWords {
     pub class: u64,
+    pub tagged: u64,
     pub payload: u64,
     pub deadline: u64,
     pub rated: u64,
     pub pace: u64,
     pub samples: u64,
+}
+
+/// The size of a row in words.
+pub const ROW_WORDS: usize = 7;
+
+impl RowWords {
+    /// The words in their order, by name.
+    pub fn of(words: [u64; ROW_WORDS]) -> RowWords {
+        let [class, tagged, payload, deadline, rated, pace, samples] = words;
+        RowWords {
+            class,
+            tagged,
+            payload,
+            deadline,
+            rated,
+            pace,
+            samples,
+        }
+    }
 }
 
 /// A frame: its row or 32 for best effort, wire size, instant taken.
@@ -53,7 +73,7 @@ pub struct LastWords {
 /// The wire: 0 when free; 1, the frame and its bytes left.
 #[derive(Clone, Copy, Debug, Default, PartialEq, Eq)]
 pub struct WireWords {
-    pub tag: u64,
+    pub sending: u64,
     pub frame: FrameWords,
     pub left: u64,
 }
@@ -137,6 +157,7 @@ impl Record {
         visit(&mut self.count);
         for row in &mut self.rows {
             visit(&mut row.class);
+            visit(&mut row.tagged);
             visit(&mut row.payload);
             visit(&mut row.deadline);
             visit(&mut row.rated);
@@ -156,7 +177,7 @@ impl Record {
         for bound in &mut self.bounds {
             visit(bound);
         }
-        visit(&mut self.wire.tag);
+        visit(&mut self.wire.sending);
         self.wire.frame.each(visit);
         visit(&mut self.wire.left);
     }
@@ -192,6 +213,7 @@ impl RowWords {
             Class::A => 0,
             Class::B => 1,
         };
+        self.tagged = row.tagged.into();
         self.payload = row.payload;
         self.deadline = row.deadline;
         match row.pace {
@@ -248,10 +270,10 @@ impl Record {
         let kept = table.rows.len().min(self.bounds.len());
         self.bounds[..kept].copy_from_slice(&port.bounds[..kept]);
         match &port.wire {
-            Wire::Free => self.wire.tag = 0,
+            Wire::Free => self.wire.sending = 0,
             Wire::Sending(frame, left) => {
                 self.wire = WireWords {
-                    tag: 1,
+                    sending: 1,
                     frame: frame_words(frame),
                     left: *left,
                 }

@@ -2,7 +2,7 @@
 //! gives them.
 
 use cases::specimen;
-use cases::tables::{rated, row};
+use cases::tables::{rated, row, tagged};
 use ithumeco::{
     call_bytes, put_words, words, Answer, Record, ANSWER_SIZE, CALL_SIZE, RECORD_SIZE, RECORD_WORDS,
 };
@@ -15,27 +15,32 @@ fn all(bytes: &[u8]) -> Vec<u64> {
 
 #[test]
 fn sizes() {
-    assert_eq!((CALL_SIZE, ANSWER_SIZE, RECORD_SIZE), (64, 40, 5888));
+    assert_eq!((CALL_SIZE, ANSWER_SIZE, RECORD_SIZE), (72, 40, 6144));
 }
 
 #[test]
 fn calls() {
     let of = |call| all(&call_bytes(call));
-    assert_eq!(of(Call::Offer(7, 58)), [0, 7, 58, 0, 0, 0, 0, 0]);
-    assert_eq!(of(Call::OfferBest(58)), [1, 58, 0, 0, 0, 0, 0, 0]);
-    assert_eq!(of(Call::Advance(58)), [2, 58, 0, 0, 0, 0, 0, 0]);
-    assert_eq!(of(Call::Leave(7)), [4, 7, 0, 0, 0, 0, 0, 0]);
+    assert_eq!(of(Call::Offer(7, 58)), [0, 7, 58, 0, 0, 0, 0, 0, 0]);
+    assert_eq!(of(Call::OfferBest(58)), [1, 58, 0, 0, 0, 0, 0, 0, 0]);
+    assert_eq!(of(Call::Advance(58)), [2, 58, 0, 0, 0, 0, 0, 0, 0]);
+    assert_eq!(of(Call::Leave(7)), [4, 7, 0, 0, 0, 0, 0, 0, 0]);
     let by_period = row(Class::B, 58, 15_625, 6000);
-    assert_eq!(
-        of(Call::Join(7, by_period)),
-        [3, 7, 1, 58, 6000, 0, 15_625, 0]
-    );
     let by_rate = rated(Class::A, 58, 44_100, 6);
-    assert_eq!(
-        of(Call::Join(7, by_rate)),
-        [3, 7, 0, 58, 17_006, 1, 44_100, 6]
-    );
-    assert_eq!(of(Call::Join(7, Row::EMPTY)), [3, 7, 0, 0, 0, 0, 0, 0]);
+    for (tag, tag_of) in [(0, (|row| row) as fn(Row) -> Row), (1, tagged)] {
+        assert_eq!(
+            of(Call::Join(7, tag_of(by_period))),
+            [3, 7, 1, tag, 58, 6000, 0, 15_625, 0]
+        );
+        assert_eq!(
+            of(Call::Join(7, tag_of(by_rate))),
+            [3, 7, 0, tag, 58, 17_006, 1, 44_100, 6]
+        );
+        assert_eq!(
+            of(Call::Join(7, tag_of(Row::EMPTY))),
+            [3, 7, 0, tag, 0, 0, 0, 0, 0]
+        );
+    }
 }
 
 #[test]
@@ -48,10 +53,11 @@ fn answers() {
     }
 }
 
-/// A port with a frame in each place, and numbers 3 and 4 empty.
+/// A port with a frame in each place, numbers 3 and 4 empty and row 5 tagged.
 fn busy() -> Port {
     let mut port = Port::fresh(specimen::table());
-    port.make(Call::Join(5, specimen::FOURTH)).expect("a join");
+    let joining = tagged(specimen::FOURTH);
+    port.make(Call::Join(5, joining)).expect("a join");
     let mark = Mark::Row(5);
     let frame = |size, instant| Frame {
         mark,
@@ -71,16 +77,18 @@ fn busy() -> Port {
 #[test]
 fn a_record() {
     let words = all(&Record::from(&busy()).bytes());
-    assert_eq!(words[..5], [1_000_005, 250_000, 200_000, 1500, 6]);
-    assert_eq!(words[5 + 6..][..6], [0, 258, 6000, 0, 15_625, 0]);
-    assert_eq!(words[5 + 6 * 5..][..6], [0, 358, 15_625, 0, 15_625, 0]);
-    assert_eq!(words[197..200], [1000, u64::MAX, 2]);
-    assert_eq!(words[200..204], [1, 5, 84, 1]);
-    assert_eq!(words[393..397], [1, 5, 85, 2]);
-    assert_eq!(words[586..590], [1, 5, 86, 3]);
-    assert_eq!(words[635 + 2 * 5..][..2], [1, 4]);
-    assert_eq!(words[699..706], [5630, 5030, 4944, 0, 0, 4730, 0]);
-    assert_eq!(words[731..], [1, 5, 87, 5, 6]);
+    assert_eq!(words[..5], [1_000_006, 250_000, 200_000, 1500, 6]);
+    assert_eq!(words[5 + 7..][..7], [0, 0, 258, 6000, 0, 15_625, 0]);
+    assert_eq!(words[5 + 7 * 2..][..7], [1, 0, 458, 31_250, 0, 31_250, 0]);
+    assert_eq!(words[5 + 7 * 3..5 + 7 * 5], [0; 14]);
+    assert_eq!(words[5 + 7 * 5..][..7], [0, 1, 358, 15_625, 0, 15_625, 0]);
+    assert_eq!(words[229..232], [1000, u64::MAX, 2]);
+    assert_eq!(words[232..236], [1, 5, 84, 1]);
+    assert_eq!(words[425..429], [1, 5, 85, 2]);
+    assert_eq!(words[618..622], [1, 5, 86, 3]);
+    assert_eq!(words[667 + 2 * 5..][..2], [1, 4]);
+    assert_eq!(words[731..738], [5672, 5072, 4950, 0, 0, 4754, 0]);
+    assert_eq!(words[763..], [1, 5, 87, 5, 6]);
 }
 
 /// The words that belong to no part keep what they hold.
@@ -97,10 +105,10 @@ fn a_record_over_junk() {
     assert!((0..RECORD_WORDS).all(|word| is_kept(&word) || kept[word] == clean[word]));
     let of = |from, to| (from..to).filter(is_kept).count();
     // Of rows 0 to 5 the samples, and all of the others.
-    assert_eq!(of(5, 197), 6 + 6 * 26);
-    assert_eq!(of(200, 635), 3 * (63 + 63 + 15));
+    assert_eq!(of(5, 229), 6 + 7 * 26);
+    assert_eq!(of(232, 667), 3 * (63 + 63 + 15));
     // Of rows 0 to 2, without a last instant, the instant; both words of 3 and 4.
-    assert_eq!(of(635, 699), 3 + 2 * 2 + 2 * 26);
-    assert_eq!(of(699, 731), 26);
-    assert_eq!(of(0, 5) + of(197, 200) + of(731, 736), 0);
+    assert_eq!(of(667, 731), 3 + 2 * 2 + 2 * 26);
+    assert_eq!(of(731, 763), 26);
+    assert_eq!(of(0, 5) + of(229, 232) + of(763, 768), 0);
 }

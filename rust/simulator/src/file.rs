@@ -11,8 +11,40 @@ use crate::table::{
 /// "The header, 15 bytes"
 pub const HEADER_SIZE: usize = 15;
 
-/// "opens with the four letters AVB1"
-pub const LETTERS: &[u8; 4] = b"AVB1";
+/// C-16: "A file that starts AVB2 has the AVB1 layout and map bit 4, without a
+/// field, for a tagged row."
+#[derive(Clone, Copy, Debug, PartialEq, Eq)]
+pub enum Edition {
+    Avb1,
+    Avb2,
+}
+
+impl Edition {
+    /// Both, the older first.
+    pub const ALL: [Edition; 2] = [Edition::Avb1, Edition::Avb2];
+
+    /// "opens with the four letters AVB1", or by C-16 AVB2
+    pub fn letters(self) -> &'static [u8; 4] {
+        match self {
+            Edition::Avb1 => b"AVB1",
+            Edition::Avb2 => b"AVB2",
+        }
+    }
+
+    /// The edition whose letters these are.
+    fn of(letters: &[u8]) -> Option<Edition> {
+        let mut editions = Edition::ALL.into_iter();
+        editions.find(|edition| edition.letters()[..] == *letters)
+    }
+
+    /// C-11: "Map bits 4 to 6 stay with 4". C-16: in AVB2 bit 4 has a meaning.
+    fn unused_bits(self) -> u8 {
+        match self {
+            Edition::Avb1 => 0b0111_0000,
+            Edition::Avb2 => 0b0110_0000,
+        }
+    }
+}
 
 /// "bit 0 payload u16"
 const PAYLOAD_BIT: u8 = 1 << 0;
@@ -23,13 +55,19 @@ const DEADLINE_BIT: u8 = 1 << 2;
 /// C-11: "map bit 3 in place of bit 1: rate u32 ... and samples per frame u8
 /// ..., after the deadline field"
 const RATE_BIT: u8 = 1 << 3;
-/// C-11: "Map bits 4 to 6 stay with 4"
-const UNUSED_BITS: u8 = 0b0111_0000;
+/// C-16: "map bit 4, without a field, for a tagged row"
+const TAG_BIT: u8 = 1 << 4;
 /// "bit 7 set for class B, without a field"
 const CLASS_B_BIT: u8 = 1 << 7;
 
-/// "Defaults: payload 42"
-pub const DEFAULT_PAYLOAD: u64 = 42;
+/// "Defaults: payload 42". C-16, of a tagged row: "Its default payload is 36."
+pub fn default_payload(tagged: bool) -> u64 {
+    if tagged {
+        36
+    } else {
+        42
+    }
+}
 
 /// "period 15,625 for A (125 µs), 31,250 for B"
 pub fn default_period(class: Class) -> u64 {
@@ -47,16 +85,17 @@ fn big_endian(bytes: &[u8]) -> u64 {
 }
 
 /// "Reading a file: in file order, place the offset of the byte at fault or
-/// of the first byte of the field at fault."
-pub fn read(file: &[u8]) -> Result<Table, Refusal> {
+/// of the first byte of the field at fault." It finds the edition in the file
+/// and hands it out beside the table.
+pub fn read(file: &[u8]) -> Result<(Edition, Table), Refusal> {
     // "1, the file ends inside the header (place 0, tested before all else)"
     if file.len() < HEADER_SIZE {
         return refuse(1, 0);
     }
     // "2, wrong first four bytes (place 0)."
-    if file[0..4] != LETTERS[..] {
+    let Some(edition) = Edition::of(&file[0..4]) else {
         return refuse(2, 0);
-    }
+    };
     // "then IA u32, IB u32, best-effort payload u16, row count u8"; "5, out of
     // range. 3, row count."
     let idle_a = big_endian(&file[4..8]);
@@ -78,29 +117,30 @@ pub fn read(file: &[u8]) -> Result<Table, Refusal> {
     let mut at = HEADER_SIZE;
     let mut rows = Vec::with_capacity(count);
     for _ in 0..count {
-        rows.push(read_row(file, &mut at)?);
+        rows.push(read_row(edition, file, &mut at)?);
     }
     // "7, bytes after the last row."
     if at < file.len() {
         return refuse(7, at);
     }
-    Ok(Table {
+    let table = Table {
         idle_a,
         idle_b,
         best_payload,
         rows,
-    })
+    };
+    Ok((edition, table))
 }
 
 /// "Each row opens with a map byte ... Only fields whose bit stands follow, in
 /// bit order."
-fn read_row(file: &[u8], at: &mut usize) -> Result<Row, Refusal> {
+fn read_row(edition: Edition, file: &[u8], at: &mut usize) -> Result<Row, Refusal> {
     // "1, the file ends inside ... a row's map"
     let Some(&map) = file.get(*at) else {
         return refuse(1, *at);
     };
-    // "4, a map bit of 3 to 6", by C-11 of 4 to 6.
-    if map & UNUSED_BITS != 0 {
+    // "4, a map bit of 3 to 6", by C-11 of 4 to 6, by C-16 in AVB2 of 5 and 6.
+    if map & edition.unused_bits() != 0 {
         return refuse(4, *at);
     }
     // C-11: "19, bits 1 and 3 both set, after 4, at the map byte."
@@ -113,11 +153,12 @@ fn read_row(file: &[u8], at: &mut usize) -> Result<Row, Refusal> {
     } else {
         Class::A
     };
+    let tagged = map & TAG_BIT != 0;
 
-    let mut payload = DEFAULT_PAYLOAD;
+    let mut payload = default_payload(tagged);
     if map & PAYLOAD_BIT != 0 {
         let field = Field::read(file, at, 2)?.within(PAYLOAD_RANGE)?;
-        payload = field.other_than(DEFAULT_PAYLOAD)?;
+        payload = field.other_than(payload)?;
     }
     let mut pace = Pace::Period(default_period(class));
     if map & PERIOD_BIT != 0 {
@@ -143,6 +184,7 @@ fn read_row(file: &[u8], at: &mut usize) -> Result<Row, Refusal> {
     }
     Ok(Row {
         class,
+        tagged,
         payload,
         pace,
         deadline,
@@ -186,11 +228,17 @@ impl Field {
     }
 }
 
-/// Writing gives the file's size.
-pub fn write(table: &Table, buffer: &mut [u8]) -> Result<usize, Refusal> {
+/// Writing gives the file's size. C-16: "Writing is told the edition".
+pub fn write(edition: Edition, table: &Table, buffer: &mut [u8]) -> Result<usize, Refusal> {
     // "3 and 5 as at opening."
     check_ranges(table)?;
-    let file = file_of(table);
+    // C-16: "23, a tagged row to be written as AVB1, after 5, place the lowest
+    // such row."
+    let lowest = table.rows.iter().position(|row| row.tagged);
+    if let (Edition::Avb1, Some(place)) = (edition, lowest) {
+        return refuse(23, place);
+    }
+    let file = file_of(edition, table);
     // "17, buffer shorter than the file."
     if buffer.len() < file.len() {
         return refuse(17, 0);
@@ -200,16 +248,17 @@ pub fn write(table: &Table, buffer: &mut [u8]) -> Result<usize, Refusal> {
     Ok(file.len())
 }
 
-/// The file of a table. Of values out of range it has what their fields hold.
-pub fn file_of(table: &Table) -> Vec<u8> {
-    file_stating(table, || false)
+/// The file of a table in an edition. Of values out of range it has what their
+/// fields hold. A tagged row has its map bit in AVB1 too: reading refuses it.
+pub fn file_of(edition: Edition, table: &Table) -> Vec<u8> {
+    file_stating(edition, table, || false)
 }
 
 /// The same, with a field that has its default where `stated` says so. Reading
 /// refuses such a field.
-pub fn file_stating(table: &Table, mut stated: impl FnMut() -> bool) -> Vec<u8> {
+pub fn file_stating(edition: Edition, table: &Table, mut stated: impl FnMut() -> bool) -> Vec<u8> {
     let mut file = Vec::new();
-    file.extend_from_slice(LETTERS);
+    file.extend_from_slice(edition.letters());
     file.extend_from_slice(&(table.idle_a as u32).to_be_bytes());
     file.extend_from_slice(&(table.idle_b as u32).to_be_bytes());
     file.extend_from_slice(&(table.best_payload as u16).to_be_bytes());
@@ -221,7 +270,10 @@ pub fn file_stating(table: &Table, mut stated: impl FnMut() -> bool) -> Vec<u8> 
         if row.class == Class::B {
             map |= CLASS_B_BIT;
         }
-        if row.payload != DEFAULT_PAYLOAD || stated() {
+        if row.tagged {
+            map |= TAG_BIT;
+        }
+        if row.payload != default_payload(row.tagged) || stated() {
             map |= PAYLOAD_BIT;
             file.extend_from_slice(&(row.payload as u16).to_be_bytes());
         }

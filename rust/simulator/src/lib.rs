@@ -13,8 +13,8 @@ pub mod refusal;
 pub mod table;
 
 pub use call::{Call, TAKEN};
-pub use file::{file_of, read, write};
+pub use file::{file_of, read, write, Edition};
 pub use port::{broken, Advance, Frame, Mark, Port, Wire};
 pub use programs::{opened, portrun, portsheet};
 pub use refusal::Refusal;
-pub use table::{bounds, open, wire_size, Class, Pace, Row, Table};
+pub use table::{bounds, open, tagged_size, wire_size, Class, Pace, Row, Table};

@@ -353,7 +353,7 @@ impl Port {
         // full class queue".
         let frame = Frame {
             mark: Mark::Row(place),
-            size: wire_size(payload),
+            size: row.size_of(payload),
             instant: self.clock,
         };
         match row.class {

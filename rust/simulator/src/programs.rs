@@ -8,8 +8,8 @@ use crate::port::{Advance, Port, NO_FRAME};
 use crate::refusal::Refusal;
 use crate::table::{bounds, open, Class, Table};
 
-/// "The program `portsheet` reads a file on standard input and prints" the
-/// sheet. "On a refusal by reading or opening it prints one line only:
+/// "The program `portsheet` reads a file", of either edition, "on standard input
+/// and prints" the sheet. "On a refusal by reading or opening it prints one line only:
 /// `refused`, number, place."
 pub fn portsheet(input: &[u8]) -> String {
     match sheet(input) {
@@ -21,7 +21,7 @@ pub fn portsheet(input: &[u8]) -> String {
 /// "After the class letter come bytes on the wire, then three byte-time
 /// counts, single spaces between."
 fn sheet(input: &[u8]) -> Result<String, Refusal> {
-    let table = read(input)?;
+    let (_, table) = read(input)?;
     let bounds = bounds(&table)?;
     let mut text = String::from("row class wire period deadline bound\n");
     for (place, row) in table.rows.iter().enumerate() {
@@ -64,9 +64,9 @@ pub fn portrun(table: &[u8], calls: &[u8]) -> String {
     text
 }
 
-/// The table of a file that reading and opening let pass.
+/// The table of a file, of either edition, that reading and opening let pass.
 pub fn opened(file: &[u8]) -> Result<Table, Refusal> {
-    let table = read(file)?;
+    let (_, table) = read(file)?;
     open(&table)?;
     Ok(table)
 }

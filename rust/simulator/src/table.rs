@@ -84,11 +84,13 @@ impl Pace {
     }
 }
 
-/// "A row has class A or B, payload, period P and deadline." The numbers may
-/// hold anything until the table is opened.
+/// "A row has class A or B, payload, period P and deadline." C-16: it may be
+/// tagged. The numbers may hold anything until the table is opened.
 #[derive(Clone, Copy, Debug, PartialEq, Eq)]
 pub struct Row {
     pub class: Class,
+    /// C-16: whether its frames have "the 6-byte R-TAG".
+    pub tagged: bool,
     pub payload: u64,
     pub pace: Pace,
     pub deadline: u64,
@@ -105,15 +107,22 @@ pub struct Table {
     pub rows: Vec<Row>,
 }
 
-/// "A payload of p bytes, 0 to 1500, has wire size 42 + max(42, p)."
+/// "A payload of p bytes, 0 to 1500, has wire size 42 + max(42, p)." C-16: in a
+/// frame with a tag it is another.
 pub fn wire_size(payload: u64) -> u64 {
     42 + payload.max(42)
+}
+
+/// C-16: "A tagged row's wire size is 48 + max(36, payload), so 84 to 1548."
+pub fn tagged_size(payload: u64) -> u64 {
+    48 + payload.max(36)
 }
 
 impl Row {
     /// What stands at an empty number.
     pub const EMPTY: Row = Row {
         class: Class::A,
+        tagged: false,
         payload: 0,
         pace: Pace::Period(0),
         deadline: 0,
@@ -131,7 +140,17 @@ impl Row {
 
     /// "C is a row's wire size."
     pub fn size(&self) -> u64 {
-        wire_size(self.payload)
+        self.size_of(self.payload)
+    }
+
+    /// The wire size of the row's frame with a payload. C-16: "Every place that
+    /// uses a stream's wire size takes it from its row."
+    pub fn size_of(&self, payload: u64) -> u64 {
+        if self.tagged {
+            tagged_size(payload)
+        } else {
+            wire_size(payload)
+        }
     }
 
     /// P. C-11: "a stream is early, and is promised its delay, by its rounded
@@ -256,7 +275,7 @@ impl Table {
         self.of(class).map(Row::size).max().unwrap_or(0)
     }
 
-    /// "LC is the best-effort wire size."
+    /// "LC is the best-effort wire size." Best effort has no tag.
     pub fn best_size(&self) -> u64 {
         wire_size(self.best_payload)
     }

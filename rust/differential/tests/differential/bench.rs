@@ -1,20 +1,21 @@
 //! Runs the library and the simulator on equal buffers, holds one to the other
 //! and counts.
 
-use cases::driver::Driver;
+use std::fmt::{self, Debug};
+
+use cases::driver::{row_about, Driver};
+use cases::files::file_in_any;
 use cases::random::Random;
 use cases::watch::{Reported, Watch};
 use differential::expected::{self, call_of, Outcome};
 use differential::guarded::Guarded;
-use differential::readable::left_of;
-use ithumeco::{list_bytes, words, Answer, BOUNDS_SIZE, CALL_SIZE};
-use simulator::{file_of, Advance, Call, Refusal};
+use differential::readable::{left_of, row_in, rows_in};
+use ithumeco::{list_bytes, words, Answer, RowWords, BOUNDS_SIZE, CALL_SIZE};
+use simulator::{Advance, Call, Refusal, Table};
 
+use crate::editions::{Editions, Handed};
 use crate::kinds::{Kinds, Step, Way};
 use crate::tally::Counts;
-
-/// A call of the library that fills a buffer from a table file.
-type FileCall = fn(&[u8], &mut [u8]) -> Outcome;
 
 /// What a list showed that the simulator and the library have played.
 pub struct Played {
@@ -33,6 +34,7 @@ pub struct Bench {
     /// The joins and the leaves that were taken.
     pub patches: [u64; 2],
     pub kinds: Kinds,
+    pub editions: Editions,
 }
 
 impl Bench {
@@ -44,12 +46,18 @@ impl Bench {
             numbers: [0; 256],
             patches: [0; 2],
             kinds: Kinds::default(),
+            editions: Editions::default(),
         }
     }
 
     /// How many cases to run, where a short run has `count`.
     pub fn times(&self, count: usize) -> usize {
         count * self.factor
+    }
+
+    /// A table's file, in an edition that can have it.
+    pub fn file(&mut self, table: &Table) -> Vec<u8> {
+        file_in_any(&mut self.random, table)
     }
 
     /// A guarded copy of some bytes, at any alignment.
@@ -85,26 +93,43 @@ impl Bench {
         self.saw(outcome.map_or_else(|refusal| refusal.number.into(), |()| 0));
     }
 
-    pub fn rewrite(&mut self, file: &[u8], room: usize) {
-        let _ = self.fill("rewrite", ithumeco::rewrite, expected::rewrite, file, room);
+    /// A file written again in the edition that is told.
+    pub fn rewrite(&mut self, file: &[u8], edition: u64, room: usize) {
+        let outcome = self.fill(
+            format_args!("rewrite as {edition}"),
+            |file, copy| ithumeco::rewrite(file, edition, copy),
+            |file, copy| expected::rewrite(file, edition, copy),
+            file,
+            room,
+        );
+        let told = Some((edition, room));
+        let outcome = outcome.map(|_| ());
+        self.editions.see(&Handed::new(file, told, outcome));
     }
 
     pub fn bounds(&mut self, file: &[u8], room: usize) {
-        let _ = self.fill("bounds", ithumeco::bounds, expected::bounds, file, room);
+        let name = format_args!("bounds");
+        let outcome = self.fill(name, ithumeco::bounds, expected::bounds, file, room);
+        self.editions.see(&Handed::new(file, None, outcome));
     }
 
     pub fn open(&mut self, file: &[u8], room: usize) -> Outcome {
-        self.fill("open", ithumeco::open, expected::open, file, room)
+        let name = format_args!("open");
+        let outcome = self.fill(name, ithumeco::open, expected::open, file, room);
+        self.editions.see(&Handed::new(file, None, outcome));
+        outcome
     }
 
-    fn fill(
+    /// A call of the library that fills a buffer from a table file, and may tell
+    /// something of it.
+    fn fill<T: Copy + Debug + PartialEq>(
         &mut self,
-        name: &str,
-        library: FileCall,
-        simulator: FileCall,
+        name: fmt::Arguments,
+        library: impl Fn(&[u8], &mut [u8]) -> Result<T, Refusal>,
+        simulator: impl Fn(&[u8], &mut [u8]) -> Result<T, Refusal>,
         file: &[u8],
         room: usize,
-    ) -> Outcome {
+    ) -> Result<T, Refusal> {
         let given = self.lend(file);
         let mut out = self.buffer(room);
         let mut meant = out.get().to_vec();
@@ -113,7 +138,7 @@ impl Bench {
         hold_outcome(outcome, simulator(file, &mut meant), &context);
         hold("buffer", &out, &meant, &context);
         hold("file", &given, file, &context);
-        self.count(outcome);
+        self.count(outcome.map(|_| ()));
         outcome
     }
 
@@ -130,7 +155,7 @@ impl Bench {
     /// to demand 3 by the library's bounds.
     pub fn replay_played(&mut self, driver: &Driver, more: usize) -> Played {
         let table = &driver.opened;
-        let file = file_of(table);
+        let file = self.file(table);
         let calls = list_bytes(&driver.calls);
         let answers = driver.answers.iter().copied().map(Answer::from);
         let mut meant: Vec<u8> = answers.flat_map(Answer::bytes).collect();
@@ -203,16 +228,30 @@ impl Bench {
         record.copy_from_slice(saved.get());
         outcome.ok()?;
         let answer = Answer::list(out.get()).next()?;
+        let (made, said) = (call_of(call)?, answer.said());
         let step = Step {
             ahead,
-            call: call_of(call)?,
-            said: answer.said(),
+            call: made,
+            said,
             behind: left_of(record),
+            row: row_about(made, said, |number| row_in(record, number)),
+            wrong_tag: rows_in(record).any(|row| row.tagged > 1),
+            tag_alone: rows_in(record).any(|row| is_tag_alone(&row)),
         };
         self.saw_answer(step.call, step.said);
         self.kinds.see(Way::OnBytes, step);
         Some(answer)
     }
+}
+
+/// Whether a row's words are those of an empty number but for its tag.
+fn is_tag_alone(row: &RowWords) -> bool {
+    let alone = RowWords {
+        tagged: 1,
+        samples: row.samples,
+        ..RowWords::default()
+    };
+    *row == alone
 }
 
 /// A file's bounds by the library.
@@ -222,7 +261,11 @@ fn bounds_of(file: &[u8]) -> Vec<u64> {
     words(&bounds).collect()
 }
 
-fn hold_outcome(said: Outcome, meant: Outcome, context: &dyn Fn() -> String) {
+fn hold_outcome<T: Debug + PartialEq>(
+    said: Result<T, Refusal>,
+    meant: Result<T, Refusal>,
+    context: &dyn Fn() -> String,
+) {
     assert!(said == meant, "{said:?}, not {meant:?}: {}", context());
 }
 

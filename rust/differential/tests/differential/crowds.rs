@@ -7,6 +7,7 @@ use cases::driver::Driver;
 use cases::hunt::Hunt;
 use cases::ports::{change, full, full_reversed, made_up};
 use cases::random::Random;
+use cases::tags::twins;
 use cases::traffic::{any_call, TRAFFIC};
 use cases::{crowds, tables};
 use differential::readable::left_of;
@@ -25,7 +26,8 @@ pub fn run(bench: &mut Bench) {
     let mut random = Random::new(9);
     let mut led = Led::default();
     let counts = (1..=62).map(crowds::with_frames);
-    for table in crowds::all().into_iter().chain(counts) {
+    let tagged = crowds::all().into_iter().map(twins);
+    for table in crowds::all().into_iter().chain(tagged).chain(counts) {
         led_to(bench, &mut random, &mut led, &table);
         records(bench, &mut random, &table);
     }
@@ -222,6 +224,7 @@ fn full_queues(bench: &mut Bench) {
         full_reversed(crowds::full_classes()),
         full(crowds::two_of_each()),
         full_reversed(crowds::two_of_each()),
+        full(twins(crowds::full_classes())),
     ] {
         assert!(port.queue_a.len() as u64 == MOST_IN_CLASS);
         let rows = port.table.rows.len() as u64;

@@ -67,17 +67,19 @@ fn sound_ports(random: &mut Random) -> [Port; 6] {
     ]
 }
 
-/// Whether a table has some rows of each class and of each pace, and some
-/// places not in use.
+/// Whether a table has some rows of each class and of each pace, some with a tag
+/// and some without, and some places not in use.
 fn is_mixed(table: &Table) -> bool {
     let rows: Vec<&Row> = table.in_use().map(|(_, row)| row).collect();
     let of = |class| rows.iter().filter(|row| row.class == class).count();
     let is_rated = |row: &Row| matches!(row.pace, Pace::Rated { .. });
     let rated = rows.iter().filter(|row| is_rated(row)).count();
+    let tagged = rows.iter().filter(|row| row.tagged).count();
     of(Class::A) >= 3
         && of(Class::B) >= 3
         && table.rows.len() <= 30
         && (1..rows.len()).contains(&rated)
+        && (1..rows.len()).contains(&tagged)
 }
 
 /// A port with several frames of a row in the queue of A and in that of B.
@@ -95,9 +97,8 @@ fn crowded_port(random: &mut Random) -> Port {
     }
 }
 
-/// A port with some rows of each class and of each pace, and some places not
-/// in use; its table is changed first. Each row has been offered to and all
-/// frames have ended.
+/// A port whose table is mixed, and is changed first. Each row has been offered to
+/// and all frames have ended.
 fn idle_port(random: &mut Random, change: fn(&mut Random, Table) -> Table) -> Port {
     loop {
         let table = tables::within(random, AGE);

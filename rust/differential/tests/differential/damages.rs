@@ -53,6 +53,20 @@ pub const DAMAGES: &[Damage] = &[
     |record, _| by_period(record).samples = 1,
     |record, _| by_period(record).samples = 256,
     |record, _| by_period(record).samples = u64::MAX,
+    // C-16: a tag or none; another gives other sizes, so that with the bounds
+    // worked out afresh a frame may be too long
+    |record, _| tagged(record).tagged = 0,
+    |record, _| tagged(record).tagged = 2,
+    |record, _| tagged(record).tagged += 1 << 32,
+    |record, _| untagged(record).tagged = 1,
+    |record, _| untagged(record).tagged = 2,
+    |record, _| untagged(record).tagged = 1 << 32,
+    |record, _| untagged(record).tagged = u64::MAX,
+    |record, _| afresh(record, |record| tagged(record).tagged = 0),
+    |record, _| afresh(record, |record| untagged(record).tagged = 1),
+    |record, _| afresh(record, |record| retag(record, |_| 0)),
+    |record, _| afresh(record, |record| retag(record, |_| 1)),
+    |record, _| afresh(record, |record| retag(record, |tag| 1 - tag)),
     // C-15: "A record with other bounds ... is broken."
     |record, _| record.bounds[idle_row(record)] += 1,
     |record, _| record.bounds[idle_row(record)] -= 1,
@@ -97,6 +111,8 @@ pub const DAMAGES: &[Damage] = &[
     |record, _| record.rows.fill(RowWords::default()),
     // an empty number is zeros, but for its samples
     |record, _| at_empty(record, |record, n| record.rows[n].class = 1),
+    |record, _| at_empty(record, |record, n| record.rows[n].tagged = 1),
+    |record, _| at_empty(record, |record, n| record.rows[n].tagged = 2),
     |record, _| at_empty(record, |record, n| record.rows[n].payload = 1),
     |record, _| at_empty(record, |record, n| record.rows[n].deadline = 1),
     |record, _| at_empty(record, |record, n| record.rows[n].rated = 1),
@@ -112,6 +128,8 @@ pub const DAMAGES: &[Damage] = &[
     // and neither is anything behind the row count
     |record, _| record.rows[record.count as usize] = record.rows[idle_row(record)],
     |record, _| behind(record, |record, n| record.rows[n].class = 2),
+    |record, _| behind(record, |record, n| record.rows[n].tagged = 2),
+    |record, _| behind(record, |record, n| record.rows[n].tagged = u64::MAX),
     |record, _| behind(record, |record, n| record.rows[n].payload = u64::MAX),
     |record, _| behind(record, |record, n| record.last[n].known = u64::MAX),
     |record, _| behind(record, |record, n| record.last[n] = at(u64::MAX)),
@@ -175,6 +193,11 @@ pub const DAMAGES: &[Damage] = &[
     |record, _| record.queue_best.frames[0].size += 1,
     |record, _| record.wire.frame.size = 83,
     |record, _| record.wire.frame.size = 1543,
+    |record, _| record.wire.frame.size = 1549,
+    |record, _| resize(&mut record.queue_a, &record.rows, 0),
+    |record, _| resize(&mut record.queue_a, &record.rows, 1),
+    |record, _| resize(&mut record.queue_b, &record.rows, 0),
+    |record, _| resize(&mut record.queue_b, &record.rows, 1),
     // "bytes left are 0 or above the size"; those of the gap are neither
     |record, _| record.wire.left = 0,
     |record, _| record.wire.left = 1,
@@ -253,6 +276,40 @@ fn paced(record: &mut Record, rated: u64) -> &mut RowWords {
     let mut rows = record.rows.iter_mut().filter(|row| !is_empty(row));
     let row = rows.find(|row| row.rated == rated);
     row.expect("a row of each pace")
+}
+
+/// The first row with a tag, and the first without.
+fn tagged(record: &mut Record) -> &mut RowWords {
+    of_tag(record, 1)
+}
+
+fn untagged(record: &mut Record) -> &mut RowWords {
+    of_tag(record, 0)
+}
+
+fn of_tag(record: &mut Record, tag: u64) -> &mut RowWords {
+    let mut rows = record.rows.iter_mut().filter(|row| !is_empty(row));
+    let row = rows.find(|row| row.tagged == tag);
+    row.expect("a row with a tag and one without")
+}
+
+/// Another tag for each row.
+fn retag(record: &mut Record, tag: fn(u64) -> u64) {
+    for row in record.rows.iter_mut().filter(|row| !is_empty(row)) {
+        row.tagged = tag(row.tagged);
+    }
+}
+
+/// Each frame of a queue as long as its row's may be, or longer by some bytes.
+fn resize(queue: &mut QueueWords<64>, rows: &[RowWords; 32], more: u64) {
+    for frame in &mut queue.frames[..queue.count as usize] {
+        let row = &rows[frame.source as usize];
+        frame.size = more
+            + match row.tagged {
+                0 => 42 + row.payload.max(42),
+                _ => 48 + row.payload.max(36),
+            };
+    }
 }
 
 /// Whether a row's words are those of an empty number.
@@ -350,7 +407,7 @@ fn fill_best(record: &mut Record, count: u64) {
 /// A frame on the wire that best effort could have.
 fn send(record: &mut Record, source: u64) {
     record.wire = WireWords {
-        tag: 1,
+        sending: 1,
         frame: FrameWords {
             source,
             size: 84,
@@ -507,7 +564,7 @@ fn send_aged(record: &mut Record, plan: &Accepted, younger: u64, left: u64) {
     let taken = record.clock.wrapping_sub(age);
     record.last[row] = at(taken);
     record.wire = WireWords {
-        tag: 1,
+        sending: 1,
         frame: FrameWords {
             source: row as u64,
             size: 84,

@@ -5,12 +5,12 @@
 use cases::driver::Driver;
 use cases::random::Random;
 use cases::tables::row;
-use cases::{crowds, rates, specimen, tables};
+use cases::{crowds, rates, specimen, tables, tags};
 use differential::readable::port_of;
 use ithumeco::{call_bytes, Answer, Record, ANSWER_SIZE, RECORD_SIZE};
 use simulator::port::{LEAST_SIZE, MOST_ADVANCE};
 use simulator::table::{accept, GAP};
-use simulator::{broken, file_of, Call, Class, Frame, Mark, Port, Table, Wire};
+use simulator::{broken, Call, Class, Frame, Mark, Port, Table, Wire};
 
 use crate::bench::Bench;
 
@@ -22,7 +22,7 @@ const SETTLING: usize = 10;
 
 pub fn run(bench: &mut Bench) {
     let mut random = Random::new(10);
-    let fixed = [specimen::table(), rates::table()];
+    let fixed = [specimen::table(), rates::table(), tags::table()];
     for table in fixed.into_iter().chain(crowds::all()) {
         on_table(bench, &table);
     }
@@ -114,7 +114,7 @@ fn next_calls(driver: &Driver) -> impl Iterator<Item = Call> {
 /// advances behind it.
 fn go_on_with_bytes(bench: &mut Bench, driver: &Driver) {
     let mut record = [0; RECORD_SIZE];
-    let file = file_of(&driver.opened);
+    let file = bench.file(&driver.opened);
     assert_eq!(ithumeco::open(&file, &mut record), Ok(()));
     for (&call, &answer) in driver.calls.iter().zip(&driver.answers) {
         let said = bench.call(&mut record, &call_bytes(call), ANSWER_SIZE);

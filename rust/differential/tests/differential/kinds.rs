@@ -1,10 +1,11 @@
 //! What calls do about the gap, the 12 bytes of a frame that are left when it
-//! is reported ended, and how often it was met.
+//! is reported ended, and about tags, and how often it was met.
 
 use cases::driver::Driver;
+use simulator::port::LEAST_SIZE;
 use simulator::refusal::refuse;
 use simulator::table::GAP;
-use simulator::{Advance, Call, Refusal};
+use simulator::{Advance, Call, Class, Refusal, Row};
 
 /// A call with its answer, and the bytes left on the wire ahead of it and
 /// behind it, 0 where that is free.
@@ -14,6 +15,11 @@ pub struct Step {
     pub call: Call,
     pub said: Result<Advance, Refusal>,
     pub behind: u64,
+    /// The row that the call is about.
+    pub row: Option<Row>,
+    /// Whether a row of the record has a tag mark above 1, or its tag alone.
+    pub wrong_tag: bool,
+    pub tag_alone: bool,
 }
 
 /// How calls are made.
@@ -33,7 +39,7 @@ const WAYS: [(Way, &str); 3] = [
 /// A kind's name, and what it is.
 type Kind = (&'static str, fn(&Step) -> bool);
 
-const KINDS: [Kind; 22] = [
+const KINDS: [Kind; 32] = [
     ("stops a byte-time before a report", |step| {
         step.passes() && step.behind == GAP + 1
     }),
@@ -78,11 +84,34 @@ const KINDS: [Kind; 22] = [
     ("refused in a gap", |step| {
         step.in_gap() && step.said.is_err() && !step.broken()
     }),
+    ("a tagged frame of A taken", |step| step.takes(Class::A)),
+    ("a tagged frame of B taken", |step| step.takes(Class::B)),
+    ("a tagged frame of A reported", |step| {
+        step.reports() && step.is_tagged(Class::A)
+    }),
+    ("a tagged frame of B reported", |step| {
+        step.reports() && step.is_tagged(Class::B)
+    }),
+    ("a tagged frame longer by its tag reported", |step| {
+        let ended = step.said.ok().and_then(|advance| advance.ended);
+        let tagged = step.row.is_some_and(|row| row.tagged);
+        ended.is_some_and(|frame| tagged && frame.size > LEAST_SIZE)
+    }),
+    ("a tagged frame of more than 1,542 reported", |step| {
+        let ended = step.said.ok().and_then(|advance| advance.ended);
+        ended.is_some_and(|frame| frame.size > 1542)
+    }),
     ("a join taken in a gap", |step| {
         step.in_gap() && step.said.is_ok() && matches!(step.call, Call::Join(..))
     }),
     ("a leave refused in a gap", |step| {
         step.in_gap() && step.said == refuse(21, 0)
+    }),
+    ("a join of a tagged row of A taken", |step| {
+        step.joins() && step.is_tagged(Class::A)
+    }),
+    ("a join of a tagged row of B taken", |step| {
+        step.joins() && step.is_tagged(Class::B)
     }),
     ("a broken record with a frame in its gap", |step| {
         step.in_gap() && step.broken()
@@ -90,12 +119,18 @@ const KINDS: [Kind; 22] = [
     ("a broken record with 13 or 14 bytes left", |step| {
         (GAP + 1..=GAP + 2).contains(&step.ahead) && step.broken()
     }),
+    ("a record with a tag mark above 1", |step| {
+        step.wrong_tag && step.broken()
+    }),
+    ("a record with a number that has its tag alone", |step| {
+        step.tag_alone && step.broken()
+    }),
 ];
 
 /// The last kinds, which no list meets, and those ahead of them, which no line
 /// does.
-const OF_RECORDS_ALONE: usize = 2;
-const OF_NO_LINE: usize = 2;
+const OF_RECORDS_ALONE: usize = 4;
+const OF_NO_LINE: usize = 4;
 
 impl Step {
     fn in_gap(&self) -> bool {
@@ -124,6 +159,21 @@ impl Step {
 
     fn reports(&self) -> bool {
         self.said.is_ok_and(|advance| advance.ended.is_some())
+    }
+
+    /// Whether the call is about a tagged row of a class.
+    fn is_tagged(&self, class: Class) -> bool {
+        self.row.is_some_and(|row| row.tagged && row.class == class)
+    }
+
+    /// Whether an offer to a tagged row of a class was taken.
+    fn takes(&self, class: Class) -> bool {
+        let offers = matches!(self.call, Call::Offer(..));
+        offers && self.said.is_ok() && self.is_tagged(class)
+    }
+
+    fn joins(&self) -> bool {
+        self.said.is_ok() && matches!(self.call, Call::Join(..))
     }
 
     fn begins_with(&self, left: u64) -> bool {
@@ -157,13 +207,18 @@ impl Kinds {
     /// A list that the simulator has played.
     pub fn see_list(&mut self, way: Way, driver: &Driver) {
         let behind = driver.lefts.iter().copied().skip(1).chain([driver.left()]);
+        let lefts = driver.lefts.iter().zip(behind);
         let calls = driver.calls.iter().zip(&driver.answers);
-        for ((&ahead, behind), (&call, &said)) in driver.lefts.iter().zip(behind).zip(calls) {
+        let calls = calls.zip(&driver.rows);
+        for ((&ahead, behind), ((&call, &said), &row)) in lefts.zip(calls) {
             let step = Step {
                 ahead,
                 call,
                 said,
                 behind,
+                row,
+                wrong_tag: false,
+                tag_alone: false,
             };
             self.see(way, step);
         }
@@ -178,13 +233,13 @@ impl Kinds {
     }
 
     pub fn print(&self) {
-        print!("{:<42}", "about the gap");
+        print!("{:<45}", "about the gap and tags");
         for (_, name) in WAYS {
             print!(" {name:>9}");
         }
         println!();
         for (kind, (name, _)) in KINDS.iter().enumerate() {
-            print!("{name:<42}");
+            print!("{name:<45}");
             for counts in self.0 {
                 print!(" {:>9}", counts[kind]);
             }

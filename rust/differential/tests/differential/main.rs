@@ -8,6 +8,7 @@ mod bench;
 mod crowds;
 mod damaged;
 mod damages;
+mod editions;
 mod files;
 mod gaps;
 mod held;

@@ -9,9 +9,9 @@ use cases::driver::{left_on, Driver};
 use cases::patches::{Course, Kinds};
 use cases::random::Random;
 use cases::specimen::{self, FOURTH};
-use cases::tables::{rated, row};
+use cases::tables::{rated, row, tagged};
 use cases::traffic::{any_call, any_patch, patched_calls, random_calls};
-use cases::{crowds, ports, tables};
+use cases::{crowds, ports, tables, tags};
 use ithumeco::ANSWER_SIZE;
 use simulator::port::MOST_ADVANCE;
 use simulator::refusal::refuse;
@@ -109,15 +109,23 @@ impl Patches<'_> {
         });
     }
 
-    /// A row that joins the specimen's, leaves, and joins again as it was or in the
-    /// other class; each time it is offered to at once, a row joins at a number
-    /// between, and both leave.
+    /// A row that joins the specimen's, leaves, and joins again as it was, in the
+    /// other class or with another tag; each time it is offered to at once, a row
+    /// joins at a number between, and both leave.
     fn comes_and_goes(&mut self, number: u64) {
         let of_b = Row {
             class: Class::B,
             ..FOURTH
         };
-        for rows in [[FOURTH, FOURTH], [FOURTH, of_b], [of_b, FOURTH]] {
+        let pairs = [
+            [FOURTH, FOURTH],
+            [FOURTH, of_b],
+            [of_b, FOURTH],
+            [FOURTH, tagged(FOURTH)],
+            [tagged(of_b), of_b],
+            [tagged(FOURTH), tagged(of_b)],
+        ];
+        for rows in pairs {
             let mut driver = Driver::new(specimen::table());
             let between = self.random.between(3, number);
             for joining in rows {
@@ -163,12 +171,20 @@ impl Patches<'_> {
         self.refused(&of_a, &[Call::Join(2, table.rows[2])], 8, 0);
         self.refused(&of_b, &[Call::Join(2, FOURTH)], 8, 0);
         // 84 bytes in 374 byte-times are one too many for what A has left, and in
-        // 456 for what B has.
-        for (class, period, place) in [(Class::A, 374, 0), (Class::B, 456, 1)] {
+        // 456 for what B has; 90, with a tag, in 401 and in 489.
+        let of_84 = |class, period| row(class, 0, period, 15_625);
+        let of_90 = |class, period| tagged(row(class, 42, period, 15_625));
+        let too_short = [
+            (of_84(Class::A, 374), 0),
+            (of_84(Class::B, 456), 1),
+            (of_90(Class::A, 401), 0),
+            (of_90(Class::B, 489), 1),
+        ];
+        for (joining, place) in too_short {
+            let pace = Pace::Period(joining.period() + 1);
             for number in [3, 31] {
-                let join = |period| Call::Join(number, row(class, 0, period, 15_625));
-                self.refused(&table, &[join(period)], 9, place);
-                self.taken(&table, &[join(period + 1)]);
+                self.refused(&table, &[Call::Join(number, joining)], 9, place);
+                self.taken(&table, &[Call::Join(number, Row { pace, ..joining })]);
             }
         }
         // 31 rows that have a frame each, and two with a 32nd; and a row of B with
@@ -200,7 +216,9 @@ impl Patches<'_> {
         table.rows.push(table.rows[2]);
         let wrong = [
             Row::EMPTY,
+            tagged(Row::EMPTY),
             row(Class::A, 1501, 15_625, 15_625),
+            tagged(row(Class::A, 1501, 15_625, 15_625)),
             row(Class::B, 58, 83, 15_625),
             row(Class::A, 58, 1_000_000_001, 15_625),
             row(Class::B, 58, 15_625, 0),
@@ -248,22 +266,31 @@ impl Patches<'_> {
                 }
             }
         }
-        // An offer, and how long after its frame the credits are 0.
-        let offers = [
-            (Call::Offer(0, 58), 300),
-            (Call::Offer(2, 458), 2000),
-            (Call::OfferBest(0), 0),
+        // An offer, and how long after its frame the credits are 0: without a tag
+        // and with one.
+        let tagged = tags::table();
+        let offers: [(&Table, Call, u64); 6] = [
+            (&table, Call::Offer(0, 58), 300),
+            (&table, Call::Offer(2, 458), 2000),
+            (&table, Call::OfferBest(0), 0),
+            (&tagged, Call::Offer(0, 58), 318),
+            (&tagged, Call::Offer(2, 458), 2024),
+            (&tagged, Call::Offer(3, 36), 336),
         ];
-        for (offer, wait) in offers {
+        for (table, offer, wait) in offers {
             let to_report = [offer, Call::Advance(MOST_ADVANCE)];
             let before_leave = |calls: &[Call]| [calls, &[Call::Leave(1)]].concat();
             let behind = |n| before_leave(&[offer, to_report[1], Call::Advance(n)]);
-            self.refused(&table, &before_leave(&[offer]), 21, 0);
-            self.refused(&table, &before_leave(&[offer, Call::Advance(1)]), 21, 0);
-            self.refused(&table, &before_leave(&to_report), 21, 0);
-            self.refused(&table, &behind(GAP - 1), 21, 0);
-            self.refused(&table, &behind(GAP + wait - 1), 21, 0);
-            self.taken(&table, &behind(GAP + wait));
+            self.refused(table, &before_leave(&[offer]), 21, 0);
+            self.refused(table, &before_leave(&[offer, Call::Advance(1)]), 21, 0);
+            self.refused(table, &before_leave(&to_report), 21, 0);
+            self.refused(table, &behind(GAP - 1), 21, 0);
+            // The wire is free, and the credit is not back.
+            let parts = [0, wait / 4, wait / 2, wait.saturating_sub(1)];
+            for n in parts.into_iter().filter(|&n| n < wait) {
+                self.refused(table, &behind(GAP + n), 21, 0);
+            }
+            self.taken(table, &behind(GAP + wait));
         }
         // The last row of a class. 21 comes first.
         self.refused(&table, &[Call::Leave(2)], 8, 0);

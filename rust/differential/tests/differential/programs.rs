@@ -15,8 +15,8 @@ use cases::lines;
 use cases::random::Random;
 use cases::specimen::{self, FILE};
 use cases::traffic::{random_lines, LINES};
-use cases::{crowds, rates, tables};
-use simulator::file_of;
+use cases::{crowds, rates, tables, tags};
+use simulator::{file_of, Edition};
 
 use crate::bench::Bench;
 use crate::gaps;
@@ -35,8 +35,16 @@ pub fn run(bench: &mut Bench) {
     for by_bytes in [false, true] {
         programs.sheet(bench, &FILE, by_bytes);
         programs.sheet(bench, &rates::FILE, by_bytes);
-        programs.sheet(bench, &file_of(&crowds::with_two_neighbours()), by_bytes);
-        programs.sheet(bench, &file_of(&crowds::one_too_many()), by_bytes);
+        programs.sheet(bench, &tags::FILE, by_bytes);
+        for edition in Edition::ALL {
+            for table in [crowds::with_two_neighbours(), crowds::one_too_many()] {
+                programs.sheet(bench, &file_of(edition, &table), by_bytes);
+            }
+            // In AVB1 a map bit: refused.
+            let file = file_of(edition, &tags::table());
+            programs.sheet(bench, &file, by_bytes);
+            programs.list(bench, &file, b"o 0 58\na 5000\na 12\no 3 36\n", by_bytes);
+        }
         programs.sheet(bench, &[], by_bytes);
         programs.sheet(bench, &[&FILE[..], &[0; 2000]].concat(), by_bytes);
         programs.list(bench, &FILE, b"", by_bytes);
@@ -47,11 +55,11 @@ pub fn run(bench: &mut Bench) {
         }
     }
     for _ in 0..bench.times(1000) {
-        let file = mostly_accepted(&mut random);
+        let file = mostly_accepted(bench, &mut random);
         programs.sheet(bench, &file, random.one_in(4));
     }
     for _ in 0..bench.times(1000) {
-        let file = mostly_accepted(&mut random);
+        let file = mostly_accepted(bench, &mut random);
         let text = any_text(&mut random, &file);
         programs.list(bench, &file, &text, random.one_in(4));
     }
@@ -104,7 +112,7 @@ impl Programs {
 
     /// A list that the simulator has played, a call a line.
     fn played(&self, bench: &mut Bench, driver: &Driver, by_bytes: bool) {
-        let file = file_of(&driver.opened);
+        let file = bench.file(&driver.opened);
         self.list(bench, &file, &text_of(driver), by_bytes);
         bench.kinds.see_list(Way::AsALine, driver);
     }
@@ -184,13 +192,14 @@ fn count(bench: &mut Bench, text: &str) {
 }
 
 /// A file, of an accepted table most of the time.
-fn mostly_accepted(random: &mut Random) -> Vec<u8> {
-    match random.below(8) {
+fn mostly_accepted(bench: &mut Bench, random: &mut Random) -> Vec<u8> {
+    match random.below(10) {
         0 => damaged(random, &FILE),
         1 => damaged(random, &rates::FILE),
-        2 => any_file(random),
-        3 => noise(random),
-        _ => file_of(&tables::lively(random)),
+        2 => damaged(random, &tags::FILE),
+        3 => any_file(random),
+        4 => noise(random),
+        _ => bench.file(&tables::lively(random)),
     }
 }
 

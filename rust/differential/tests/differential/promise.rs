@@ -8,7 +8,7 @@ use cases::driver::Driver;
 use cases::hunt::Hunt;
 use cases::random::Random;
 use cases::traffic::{dense_calls, patched_calls};
-use cases::{crowds, rates, specimen, tables};
+use cases::{crowds, rates, specimen, tables, tags};
 use simulator::{Class, Table};
 
 use crate::bench::{Bench, Played};
@@ -21,7 +21,7 @@ type Traffic = fn(&mut Random, &mut Driver, usize);
 pub fn run(bench: &mut Bench) {
     let mut random = Random::new(8);
     let mut closest = Closest::default();
-    let fixed = [specimen::table(), rates::table()];
+    let fixed = [specimen::table(), rates::table(), tags::table()];
     for table in fixed.into_iter().chain(crowds::all()) {
         on_table(bench, &mut random, &mut closest, table);
     }
@@ -69,11 +69,11 @@ fn on_table(bench: &mut Bench, random: &mut Random, closest: &mut Closest, table
 
 /// The ages that came closest to their limits: in A, in B where there is no
 /// row of A, and in B behind A; then the same of frames that were reported with
-/// another frame of their row in the port, and of frames whose row's bound rose
-/// while they were in it.
+/// another frame of their row in the port, of frames whose row's bound rose while
+/// they were in it, and of frames with a tag.
 #[derive(Default)]
 struct Closest {
-    ages: [(u64, u64); 9],
+    ages: [(u64, u64); KINDS.len()],
     frames: u64,
     /// The frames that were reported with another of their row in the port.
     beside: u64,
@@ -81,6 +81,8 @@ struct Closest {
     /// was when they were taken.
     raised: u64,
     older: u64,
+    /// The frames with a tag.
+    tagged: u64,
     /// The most frames of a row and of a class that were in the port at once.
     most: usize,
     most_in_class: usize,
@@ -88,7 +90,7 @@ struct Closest {
 
 /// Each of these with the hundredths of its limit that an age is to come to. With
 /// B alone the frame that is hunted for is offered behind the last join.
-const KINDS: [(&str, u64); 9] = [
+const KINDS: [(&str, u64); 12] = [
     ("A", 97),
     ("B alone", 97),
     ("B behind A", 97),
@@ -98,6 +100,9 @@ const KINDS: [(&str, u64); 9] = [
     ("A, with a bound that rose", 97),
     ("B alone, with a bound that rose", 80),
     ("B behind A, with a bound that rose", 97),
+    ("A, with a tag", 97),
+    ("B alone, with a tag", 97),
+    ("B behind A, with a tag", 97),
 ];
 
 impl Closest {
@@ -120,6 +125,10 @@ impl Closest {
                 self.older += u64::from(age > frame.bound);
                 nearer(&mut self.ages[kind + 6], age, limit);
             }
+            if frame.tagged {
+                self.tagged += 1;
+                nearer(&mut self.ages[kind + 9], age, limit);
+            }
         }
         let most = played.most.iter().copied().max();
         self.most = self.most.max(most.unwrap_or(0));
@@ -130,8 +139,9 @@ impl Closest {
 
     fn print(&self) {
         let _whole = stdout().lock();
-        let (frames, beside) = (self.frames, self.beside);
+        let (frames, beside, tagged) = (self.frames, self.beside, self.tagged);
         println!("{frames} frames of rows, none older than its limit; {beside} beside another");
+        println!("{tagged} with a tag");
         let (raised, older) = (self.raised, self.older);
         println!("{raised} with a bound that rose; {older} older than it was at first");
         let (most, most_in_class) = (self.most, self.most_in_class);

@@ -7,7 +7,7 @@ use cases::tables;
 use cases::traffic::{any_call, TRAFFIC};
 use differential::readable::left_of;
 use ithumeco::{call_bytes, ANSWER_SIZE, CALL_SIZE, RECORD_SIZE};
-use simulator::{file_of, Call, Port, Table};
+use simulator::{Call, Port, Table};
 
 use crate::bench::Bench;
 use crate::held::Held;
@@ -36,7 +36,8 @@ fn opened(random: &mut Random, file: &[u8]) -> Vec<u8> {
 
 /// Makes the calls on the record that the library has opened.
 fn one_by_one(bench: &mut Bench, random: &mut Random, table: Table, calls: &[Call]) {
-    let record = opened(random, &file_of(&table));
+    let file = bench.file(&table);
+    let record = opened(random, &file);
     let port = Port::fresh(table);
     let mut held = Held { record, port };
     for call in calls {

@@ -4,8 +4,8 @@ use cases::driver::Driver;
 use cases::files::{any_file, damaged};
 use cases::random::Random;
 use cases::specimen::FILE;
-use cases::tables;
 use cases::traffic::TRAFFIC;
+use cases::{tables, tags};
 use ithumeco::{list_bytes, ANSWER_SIZE, CALL_SIZE};
 use simulator::Call;
 
@@ -51,9 +51,11 @@ fn misfits(bench: &mut Bench, random: &mut Random) {
         }
     }
     for _ in 0..bench.times(40_000) {
-        let file = match random.below(4) {
+        let file = match random.below(6) {
             0 => damaged(random, &FILE),
             1 => any_file(random),
+            2 => damaged(random, &tags::FILE),
+            3 => tags::FILE.to_vec(),
             _ => FILE.to_vec(),
         };
         let mut calls = calls.clone();

@@ -3,11 +3,13 @@
 use std::iter;
 
 use crate::bench::Bench;
+use crate::editions::Editions;
 use crate::kinds::Kinds;
 
-/// The numbers of the documents' refusals, and of bytes that do not fit.
+/// The numbers of the documents' refusals, and of bytes and editions that do not
+/// fit.
 fn refusals() -> impl Iterator<Item = usize> {
-    (1..=22).chain(101..=103)
+    (1..=23).chain(101..=104)
 }
 
 /// How often each number was seen from the product, 0 where it did not refuse.
@@ -29,6 +31,7 @@ struct Group {
 pub struct Tally {
     groups: Vec<Group>,
     kinds: Kinds,
+    editions: Editions,
 }
 
 impl Tally {
@@ -40,11 +43,12 @@ impl Tally {
             patches: bench.patches,
         });
         self.kinds.add(&bench.kinds);
+        self.editions.add(&bench.editions);
     }
 
     /// How often each group has seen each number, 0 standing for no refusal, and
     /// has seen a join and a leave taken; and how often all of them have met each
-    /// kind of call about the gap.
+    /// kind of call about the gap and tags, and of file about editions.
     pub fn print(&self) {
         self.line("number", |group| group.name.to_string());
         for number in iter::once(0).chain(refusals()) {
@@ -55,6 +59,7 @@ impl Tally {
         self.line("joins", |group| group.patches[0].to_string());
         self.line("leaves", |group| group.patches[1].to_string());
         self.kinds.print();
+        self.editions.print();
     }
 
     fn line(&self, name: &str, of: impl Fn(&Group) -> String) {
@@ -75,6 +80,8 @@ impl Tally {
             |group: &&Group| !WITHOUT_PATCHES.contains(&group.name) && group.patches.contains(&0);
         let groups = self.groups.iter().filter(without);
         let groups = groups.map(|group| format!("no join or no leave in group {}", group.name));
-        refusals.chain(groups).chain(self.kinds.unmet()).collect()
+        let kinds = self.kinds.unmet().into_iter();
+        let kinds = kinds.chain(self.editions.unmet());
+        refusals.chain(groups).chain(kinds).collect()
     }
 }

@@ -1,6 +1,6 @@
 //! Calls that cannot be read, and joins that only just can.
 
-use ithumeco::{put_words, CALL_SIZE, CALL_WORDS};
+use ithumeco::{put_words, CALL_SIZE, CALL_WORDS, ROW_WORDS};
 
 type Words = [u64; CALL_WORDS];
 
@@ -13,26 +13,26 @@ const U32: u64 = u32::MAX as u64;
 
 /// A call of each kind but a join, and how many of its words it uses.
 const SHORT: [(Words, usize); 4] = [
-    ([0, 0, 58, 0, 0, 0, 0, 0], 3),
-    ([1, 42, 0, 0, 0, 0, 0, 0], 2),
-    ([2, 7, 0, 0, 0, 0, 0, 0], 2),
-    ([4, 0, 0, 0, 0, 0, 0, 0], 2),
+    ([0, 0, 58, 0, 0, 0, 0, 0, 0], 3),
+    ([1, 42, 0, 0, 0, 0, 0, 0, 0], 2),
+    ([2, 7, 0, 0, 0, 0, 0, 0, 0], 2),
+    ([4, 0, 0, 0, 0, 0, 0, 0, 0], 2),
 ];
 
-/// Joins of a row that names a period and of one that names a rate, and the
-/// largest word of each of the row's fields.
-const BY_PERIOD: (Words, [u64; 6]) = (
-    [3, 3, 0, 58, 15_625, 0, 15_625, 0],
-    [1, U16, U32, 1, U32, 0],
+/// Joins of a row that names a period and of a tagged one that names a rate, and
+/// the largest word of each of the row's fields.
+const BY_PERIOD: (Words, [u64; ROW_WORDS]) = (
+    [3, 3, 0, 0, 58, 15_625, 0, 15_625, 0],
+    [1, 1, U16, U32, 1, U32, 0],
 );
-const BY_RATE: (Words, [u64; 6]) = (
-    [3, 3, 0, 58, 15_625, 1, 48_000, 6],
-    [1, U16, U32, 1, U32, U8],
+const BY_RATE: (Words, [u64; ROW_WORDS]) = (
+    [3, 3, 0, 1, 58, 15_625, 1, 48_000, 6],
+    [1, 1, U16, U32, 1, U32, U8],
 );
 
-/// The places of a join's row, and of its mark.
+/// The places of a join's row, and of its pace's mark.
 const ROW: usize = 2;
-const MARK: usize = ROW + 3;
+const MARK: usize = ROW + 4;
 
 /// Each word of a join's row as large as its field.
 fn largest() -> impl Iterator<Item = Change> {

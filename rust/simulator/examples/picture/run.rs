@@ -27,7 +27,7 @@ pub struct Run {
 impl Run {
     /// The run of a table file of class A alone.
     pub fn of(file: &[u8]) -> Result<Run, Refusal> {
-        let table = read(file)?;
+        let (_, table) = read(file)?;
         let row = table.rows.len() - 1;
         let mut run = Run {
             figures: table.figures(Class::A),

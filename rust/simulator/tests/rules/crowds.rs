@@ -1,16 +1,14 @@
 //! C-12: deadlines longer than the period, and rows with several frames in the
 //! port.
 
+use crate::avb1::{file_of, read, write};
 use crate::frames::{best, ended, frame};
 use crate::refusals::refusal;
 use cases::crowds;
 use cases::ports::{full, full_reversed};
 use cases::tables::row;
-use simulator::file::file_of;
 use simulator::table::{accept, MOST_IN_CLASS};
-use simulator::{
-    bounds, broken, open, portsheet, read, write, Class, Mark, Pace, Port, Table, Wire,
-};
+use simulator::{bounds, broken, open, portsheet, Class, Mark, Pace, Port, Table, Wire};
 
 fn of_row(row: usize) -> impl Fn(&simulator::Frame) -> bool {
     move |frame| frame.mark == Mark::Row(row)

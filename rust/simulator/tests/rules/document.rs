@@ -1,11 +1,10 @@
 //! The scope's own numbers.
 
+use crate::avb1::{read, write};
 use crate::frames::{best, ended, frame, none};
 use cases::specimen::{table, FILE};
 use cases::tables::row;
-use simulator::{
-    bounds, open, portrun, portsheet, read, wire_size, write, Class, Port, Refusal, Table, Wire,
-};
+use simulator::{bounds, open, portrun, portsheet, wire_size, Class, Port, Refusal, Table, Wire};
 
 #[test]
 fn specimen_reads() {

@@ -1,13 +1,14 @@
 //! C-15: rows that join and leave, numbers in use and empty ones, and the bounds
 //! that a port keeps.
 
+use crate::avb1::write;
 use crate::frames::{ended, frame, none};
 use crate::refusals::{refusal, refused_open};
 use cases::crowds;
 use cases::specimen::{table, FOURTH};
-use cases::tables::{rated, row};
+use cases::tables::{rated, row, tagged};
 use simulator::table::accept;
-use simulator::{bounds, broken, open, write, Call, Class, Pace, Port, Row, Table, Wire, TAKEN};
+use simulator::{bounds, broken, open, Call, Class, Pace, Port, Row, Table, Wire, TAKEN};
 
 fn taken(port: &mut Port, call: Call) {
     assert_eq!(port.make(call), Ok(TAKEN), "{call}");
@@ -340,7 +341,9 @@ fn joining_5_out_of_range_or_empty() {
     let of_payload = |payload| Row { payload, ..FOURTH };
     let wrong = [
         Row::EMPTY,
+        tagged(Row::EMPTY),
         of_payload(1501),
+        tagged(of_payload(1501)),
         of_payload(u64::MAX),
         paced(Pace::Period(0)),
         paced(Pace::Period(83)),
@@ -503,6 +506,7 @@ fn an_empty_number_is_not_opened_or_written() {
         assert_eq!(write(&table, &mut [0; 100]), Err(refusal(5, place as u64)));
     }
     refused_open(|table| table.rows.push(Row::EMPTY), 5, 3);
+    refused_open(|table| table.rows.push(tagged(Row::EMPTY)), 5, 3);
     // The header first, and the lowest row.
     let two = |table: &mut Table| {
         table.rows[2] = Row::EMPTY;
@@ -603,6 +607,7 @@ fn an_empty_number_is_all_zeros() {
         row(Class::A, 0, 1, 0),
         row(Class::A, 0, 0, 1),
         rated(Class::A, 0, 0, 0),
+        tagged(Row::EMPTY),
     ];
     for row in not_quite {
         let change = |port: &mut Port| port.table.rows[4] = row;

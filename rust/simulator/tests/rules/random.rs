@@ -4,19 +4,21 @@ use std::collections::BTreeSet;
 
 use cases::crowds;
 use cases::driver::{left_on, Driver};
-use cases::files::damaged;
+use cases::files::{any_edition, damaged};
 use cases::hunt::Hunt;
 use cases::ports;
 use cases::random::Random;
 use cases::rates;
 use cases::specimen::{table, FILE};
 use cases::tables;
+use cases::tags;
 use cases::traffic::{any_call, any_patch, dense_calls, patched_calls, random_lines};
 use cases::watch::{Reported, Watch};
 use simulator::port::CLAUSES;
 use simulator::refusal::refuse;
 use simulator::{
-    bounds, broken, portrun, read, write, Advance, Call, Class, Mark, Port, Refusal, Row, Table,
+    bounds, broken, file_of, portrun, read, write, Advance, Call, Class, Edition, Mark, Port,
+    Refusal, Row, Table,
 };
 
 /// The longest period of a table in dense traffic.
@@ -43,6 +45,7 @@ fn closest<'a>(frames: impl Iterator<Item = &'a Reported>) -> u64 {
 fn dense_lists_keep_the_promise() {
     let mut random = Random::new(1);
     let (mut reported, mut nearest) = (0, 0);
+    let (mut with_tag, mut nearest_with_tag) = (0, 0);
     for _ in 0..400 {
         let mut driver = Driver::new(tables::within(&mut random, LONGEST));
         dense_calls(&mut random, &mut driver, 1300);
@@ -50,10 +53,13 @@ fn dense_lists_keep_the_promise() {
         let watch = watched(driver);
         reported += watch.reported.len();
         nearest = closest(watch.reported.iter()).max(nearest);
+        let tagged = watch.reported.iter().filter(|frame| frame.tagged);
+        with_tag += tagged.clone().count();
+        nearest_with_tag = closest(tagged).max(nearest_with_tag);
     }
-    println!("{reported} frames reported, the oldest at {nearest}/1000 of its bound");
-    assert!(reported > 40_000);
-    assert!(nearest > 950);
+    println!("{reported} frames reported, the oldest at {nearest}/1000 of its bound; {with_tag} with a tag, the oldest at {nearest_with_tag}/1000");
+    assert!(reported > 40_000 && with_tag > 4000);
+    assert!(nearest > 950 && nearest_with_tag > 900);
 }
 
 /// Rows with several frames in the port, hunted for the oldest of them.
@@ -113,7 +119,7 @@ fn lists_with_joins_and_leaves_keep_the_promise() {
 #[test]
 fn frames_that_wait_while_rows_join_keep_the_promise() {
     let mut random = Random::new(8);
-    let mut tables = vec![table(), rates::table()];
+    let mut tables = vec![table(), rates::table(), tags::table()];
     tables.extend(crowds::all());
     for _ in 0..15 {
         for class in [Class::A, Class::B] {
@@ -247,30 +253,43 @@ fn a_broken_record_refuses_every_call() {
 #[test]
 fn written_files_read_back() {
     let mut random = Random::new(2);
+    let mut of_avb1 = 0;
     for _ in 0..2000 {
         let mut table = tables::accepted(&mut random);
         tables::set_defaults(&mut random, &mut table);
-        let mut buffer = [0xEE; 15 + 32 * 12 + 10];
-        let size = write(&table, &mut buffer).unwrap();
-        assert!(buffer[size..].iter().all(|&byte| byte == 0xEE));
-        assert_eq!(read(&buffer[..size]), Ok(table));
+        let lowest = table.rows.iter().position(|row| row.tagged);
+        for edition in Edition::ALL {
+            let mut buffer = [0xEE; 15 + 32 * 12 + 10];
+            let written = write(edition, &table, &mut buffer);
+            if let (Edition::Avb1, Some(lowest)) = (edition, lowest) {
+                assert_eq!(written, refuse(23, lowest));
+                assert_eq!(buffer, [0xEE; 15 + 32 * 12 + 10]);
+                continue;
+            }
+            of_avb1 += usize::from(edition == Edition::Avb1);
+            let size = written.unwrap();
+            assert!(buffer[size..].iter().all(|&byte| byte == 0xEE));
+            assert_eq!(read(&buffer[..size]), Ok((edition, table.clone())));
+        }
     }
+    println!("{of_avb1} of 2000 tables have no tagged row");
+    assert!((700..1500).contains(&of_avb1));
 }
 
 #[test]
 fn a_file_that_reads_is_the_one_that_is_written() {
     let mut random = Random::new(3);
-    let mut accepted = 0;
+    let mut accepted = [0; 2];
     let mut seen = BTreeSet::new();
     for _ in 0..100_000 {
-        let file = random.pick(&[&FILE[..], &rates::FILE]);
+        let file = random.pick(&[&FILE[..], &rates::FILE, &tags::FILE]);
         let file = damaged(&mut random, file);
         match read(&file) {
-            Ok(table) => {
+            Ok((edition, table)) => {
                 let mut buffer = vec![0; file.len()];
-                assert_eq!(write(&table, &mut buffer), Ok(file.len()));
+                assert_eq!(write(edition, &table, &mut buffer), Ok(file.len()));
                 assert_eq!(buffer, file);
-                accepted += 1;
+                accepted[edition as usize] += 1;
             }
             Err(refusal) => {
                 assert!(refusal.place <= file.len() as u64);
@@ -278,25 +297,30 @@ fn a_file_that_reads_is_the_one_that_is_written() {
             }
         }
     }
-    assert!(accepted > 1000);
+    println!("{accepted:?} files of the editions read");
+    assert!(accepted.iter().all(|&count| count > 1000));
     assert!(seen.into_iter().eq((1..=7).chain([19])));
 }
 
 #[test]
 fn a_run_prints_what_the_calls_answer() {
     let mut random = Random::new(4);
-    let mut driver = Driver::new(table());
-    random_lines(&mut random, &mut driver, 2500);
-    dense_calls(&mut random, &mut driver, 2500);
-    let calls: String = driver
-        .calls
-        .iter()
-        .map(|call| format!("{call}\n"))
-        .collect();
-    let expected: String = driver.answers.into_iter().map(line).collect();
-    assert_eq!(portrun(&FILE, calls.as_bytes()), expected);
-    for number in 11..=15 {
-        assert!(expected.contains(&format!("refused {number} 0\n")));
+    for table in [table(), tags::table()] {
+        let edition = any_edition(&mut random, &table);
+        let file = file_of(edition, &table);
+        let mut driver = Driver::new(table);
+        random_lines(&mut random, &mut driver, 2500);
+        dense_calls(&mut random, &mut driver, 2500);
+        let calls: String = driver
+            .calls
+            .iter()
+            .map(|call| format!("{call}\n"))
+            .collect();
+        let expected: String = driver.answers.into_iter().map(line).collect();
+        assert_eq!(portrun(&file, calls.as_bytes()), expected);
+        for number in 11..=15 {
+            assert!(expected.contains(&format!("refused {number} 0\n")));
+        }
     }
 }
 

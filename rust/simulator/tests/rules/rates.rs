@@ -1,12 +1,12 @@
 //! C-11: rows that name a sample rate.
 
+use crate::avb1::{file_of, read, write};
 use crate::refusals::{one_row, refusal, refused_open, refused_read, with};
 use cases::rates::{self, FILE};
 use cases::specimen::table;
 use cases::tables::{rated, row};
-use simulator::file::file_of;
 use simulator::table::{PERIOD_RANGE, SECOND};
-use simulator::{bounds, open, portsheet, read, write, Class, Pace, Port, Table};
+use simulator::{bounds, open, portsheet, Class, Pace, Port, Table};
 
 fn period(samples: u64, rate: u64) -> u64 {
     Pace::Rated { rate, samples }.period()

@@ -1,4 +1,4 @@
--- `callbytes::calls::read_call` meets its contract: 64 bytes are eight words, and those name the call if zeros stand behind the last that it uses; any other length names none.
+-- `callbytes::calls::read_call` meets its contract: 72 bytes are nine words, and those name the call if zeros stand behind the last that it uses; any other length names none.
 use Rattle.table.proofs.Laws.{fails, holds}
 use Rattle.callbytes.proofs.Named.{no-call, rest-used, rest-zero}
 use borrow.Author.Needs.{needs}

@@ -1,4 +1,4 @@
--- `callbytes::calls::row_end` meets its contract: a row has five words with a period, six with a rate.
+-- `callbytes::calls::row_end` meets its contract: a row has six words with a period, seven with a rate.
 use mathlib.Core.Path.{refl}
 use borrow.Author.Needs.{needs}
 use Rattle.callbytes.proofs.calls.row_end.Statement.{statement}

@@ -1,4 +1,4 @@
--- `lent_rows::rows::bounds` meets its contract: a walk of its MIR, by hand. The loop's invariant: the table has the first i rows. A turn reads the four values of a row and calls `push`, and `planner::bounds` answers for the table.
+-- `lent_rows::rows::bounds` meets its contract: a walk of its MIR, by hand. The loop's invariant: the table has the first i rows. A turn reads the five values of a row and calls `push`, and `planner::bounds` answers for the table.
 -- Assumes nothing.
 use mathlib.Core.Path.{_≡_, refl, sym, subst, ap, _∙_}
 use Prim.Native.Nat.{ℕ, _+_, _*_, _-_, _≤_, _<_, _^_, zero-le, min}
@@ -31,8 +31,8 @@ use sound.WpLaws.{fmOf, WpFn-mono}
 use denote.RattleType.{owns}
 use denote.Laws.{Is, shows}
 use denote.Memory.{cellAt, pointee}
-use denote.Plain.{uint-makes, uint-lawful}
-use denote.Builtin.{u16, u32, usize}
+use denote.Plain.{bool-makes, uint-makes, uint-lawful}
+use denote.Builtin.{bool, u16, u32, usize}
 use denote.Index.{place, place-is, elem-out, elem-back, looks-slice, shuts-slice}
 use denote.Ref.{RefT, now}
 use denote.Signature.{plain}
@@ -109,7 +109,7 @@ class-is : (r : Row) → Is R.the-row r (R′.lowered r ∷ []) → Is C.the-row
 class-is r g = subst (λ (vs : List Val). Is C.the-row (r .class) vs) (C′.lowers .val-is (r .class) _ (g .1 .1 .0)) (g .1 .1 .0)
 
 pace-is : (r : Row) → Is R.the-row r (R′.lowered r ∷ []) → Is P.the-row (r .pace) (P′.lowered (r .pace) ∷ [])
-pace-is r g = subst (λ (vs : List Val). Is P.the-row (r .pace) vs) (P′.lowers .val-is (r .pace) _ (g .1 .1 .1 .1 .0)) (g .1 .1 .1 .1 .0)
+pace-is r g = subst (λ (vs : List Val). Is P.the-row (r .pace) vs) (P′.lowers .val-is (r .pace) _ (g .1 .1 .1 .1 .1 .0)) (g .1 .1 .1 .1 .1 .0)
 
 -- where a turn begins: the table has the first i rows
 record Turn (hd : Header) (ys : List Row) : Type 0 where
@@ -181,21 +181,22 @@ module _ {M : Type 1} (𝓤 : URA M) (H : Heap 𝓤) (A : Atoms 𝓤) (W : Given
   goes-read-upto : length ys < 2 ^ 64 → ent 𝓤 (emp 𝓤) (ReadUpto 𝓤 H A mem run .pre to-read-upto)
   goes-read-upto fn = qed W [] ∵ nothing ! $ owned ! usize (Is usize) (uint-makes 𝓤 H A W w64) (length ys) (vint w64 (length ys) ∷ []) (refl, fn) $ fjoin ! $ nothing ! $ join ! $ frame ! $ done !
 
-  -- `push` is passed the four values of a row
+  -- `push` is passed the five values of a row
   abbrev PushArg : Type 0
-  PushArg = Table × (Class × (ℕ × (Pace × (ℕ × Unit {0}))))
+  PushArg = Table × (Class × (Bool × (ℕ × (Pace × (ℕ × Unit {0})))))
 
   abbrev pushes : Table → Row → PushArg
-  pushes t r = (t, (r .class, (r .payload, (r .pace, (r .deadline, tt)))))
+  pushes t r = (t, (r .class, (r .tagged, (r .payload, (r .pace, (r .deadline, tt))))))
 
   abbrev to-push : (t : Table) (u : Val) (r : Row) → Push 𝓤 H A mem run .Ghost
-  to-push t u r = ((tt, tt, tt, pushes t r, (u ∷ [], (C′.lowered (r .class) ∷ [], (vint w16 (r .payload) ∷ [], (P′.lowered (r .pace) ∷ [], (vint w32 (r .deadline) ∷ [], tt)))))), tt)
+  to-push t u r = ((tt, tt, tt, pushes t r, (u ∷ [], (C′.lowered (r .class) ∷ [], (vbool (r .tagged) ∷ [], (vint w16 (r .payload) ∷ [], (P′.lowered (r .pace) ∷ [], (vint w32 (r .deadline) ∷ [], tt))))))), tt)
 
   goes-push : (t : Table) (u : Val) (r : Row) → Is T.the-row t (u ∷ []) → Is R.the-row r (R′.lowered r ∷ []) → ent 𝓤 (emp 𝓤) (Push 𝓤 H A mem run .pre (to-push t u r))
   goes-push t u r is g =
-      qed W [] ∵ nothing ! $ owned ! u32 (Is u32) (uint-makes 𝓤 H A W w32) (r .deadline) (vint w32 (r .deadline) ∷ []) (refl, g .1 .1 .1 .1 .1 .0 .1) $ fjoin ! $
+      qed W [] ∵ nothing ! $ owned ! u32 (Is u32) (uint-makes 𝓤 H A W w32) (r .deadline) (vint w32 (r .deadline) ∷ []) (refl, g .1 .1 .1 .1 .1 .1 .0 .1) $ fjoin ! $
       owned ! P.the-row (Is P.the-row) (EL.makes P.the-type P′.the-plain 𝓤 H A) (r .pace) (P′.lowered (r .pace) ∷ []) (pace-is r g) $ fjoin ! $
-      owned ! u16 (Is u16) (uint-makes 𝓤 H A W w16) (r .payload) (vint w16 (r .payload) ∷ []) (refl, g .1 .1 .1 .0 .1) $ fjoin ! $
+      owned ! u16 (Is u16) (uint-makes 𝓤 H A W w16) (r .payload) (vint w16 (r .payload) ∷ []) (refl, g .1 .1 .1 .1 .0 .1) $ fjoin ! $
+      owned ! bool (Is bool) (bool-makes 𝓤 H A W) (r .tagged) (vbool (r .tagged) ∷ []) refl $ fjoin ! $
       owned ! C.the-row (Is C.the-row) (EL.makes C.the-type C′.the-plain 𝓤 H A) (r .class) (C′.lowered (r .class) ∷ []) (class-is r g) $ fjoin ! $
       owned ! T.the-row (Is T.the-row) (LL.makes T.the-type T′.the-plain 𝓤 H A) t (u ∷ []) is $ fjoin ! $ nothing ! $ join ! $ frame ! $ done !
 
@@ -268,15 +269,16 @@ module _ {M : Type 1} (𝓤 : URA M) (H : Heap 𝓤) (A : Atoms 𝓤) (W : Given
         -- [the row; what it owns; the others; what shuts; the fractured borrow; what the slice owns; room for _14; …; _13; …]
         use1 W (‵ (fat q′ R′.mir b (place 16 o i) (R′.lowered (rowAt i)))) (W .laws .raw-at q′ R′.mir b (place 16 o i) (R′.lowered (rowAt i))) $
         assigns ! (of-opd ! (loads ! (from ! (hop ! (look ! 22 refl) (fld ! refl (stop !)))) (look-in ! 0 (sub ! 0 refl (whole !))))) (from ! (stop !)) (init ! 12 refl (EL.lawful C.the-type C′.the-laws 𝓤 H A W tt .typed (rowAt i .class) _ (class-is (rowAt i) g) .0)) $
-        assigns ! (of-opd ! (loads ! (from ! (hop ! (look ! 22 refl) (fld ! refl (stop !)))) (look-in ! 0 (sub ! 1 refl (whole !))))) (from ! (stop !)) (init ! 10 refl (tt, record { fits = g .1 .1 .1 .0 .1 })) $
-        assigns ! (of-opd ! (loads ! (from ! (hop ! (look ! 22 refl) (fld ! refl (stop !)))) (look-in ! 0 (sub ! 2 refl (whole !))))) (from ! (stop !)) (init ! 8 refl (EL.lawful P.the-type P′.the-laws 𝓤 H A W tt .typed (rowAt i .pace) _ (pace-is (rowAt i) g) .0)) $
-        assigns ! (of-opd ! (loads ! (from ! (hop ! (look ! 22 refl) (fld ! refl (stop !)))) (look-in ! 0 (sub ! 3 refl (whole !))))) (from ! (stop !)) (init ! 6 refl (tt, record { fits = g .1 .1 .1 .1 .1 .0 .1 })) $
+        assigns ! (of-opd ! (loads ! (from ! (hop ! (look ! 22 refl) (fld ! refl (stop !)))) (look-in ! 0 (sub ! 1 refl (whole !))))) (from ! (stop !)) (store ! 18 refl (tt, tt)) $
+        assigns ! (of-opd ! (loads ! (from ! (hop ! (look ! 22 refl) (fld ! refl (stop !)))) (look-in ! 0 (sub ! 2 refl (whole !))))) (from ! (stop !)) (init ! 10 refl (tt, record { fits = g .1 .1 .1 .1 .0 .1 })) $
+        assigns ! (of-opd ! (loads ! (from ! (hop ! (look ! 22 refl) (fld ! refl (stop !)))) (look-in ! 0 (sub ! 3 refl (whole !))))) (from ! (stop !)) (init ! 8 refl (EL.lawful P.the-type P′.the-laws 𝓤 H A W tt .typed (rowAt i .pace) _ (pace-is (rowAt i) g) .0)) $
+        assigns ! (of-opd ! (loads ! (from ! (hop ! (look ! 22 refl) (fld ! refl (stop !)))) (look-in ! 0 (sub ! 4 refl (whole !))))) (from ! (stop !)) (init ! 6 refl (tt, record { fits = g .1 .1 .1 .1 .1 .1 .0 .1 })) $
         use1 W (‵ (cellAt q′ (R.the-row .mir) (R′.lowered (rowAt i) ∷ []) b (place 16 o i))) (W .laws .at-raw q′ R′.mir b (place 16 o i) (R′.lowered (rowAt i))) $
         elem-back ! R.the-row q′ ys i noRow (R′.lowered (rowAt i) ∷ []) b o l $ shuts-slice ! tt R.the-row q′ ys b o $ move ! (1 ∷ []) $ drop ! $
         use0 W (raw (Push 𝓤 H A mem run .pre (to-push (t .table) (t .value) (rowAt i)))) (goes-push (t .table) (t .value) (rowAt i) (t .is) g) $
         calls-at ! (fmOf 𝓤 H (W .laws) 𝓣) (Push 𝓤 H A mem run) known-push (to-push (t .table) (t .value) (rowAt i))
-        (and-then ! (loads ! (from ! (stop !)) (look ! 25 refl)) (and-then ! (loads ! (from ! (stop !)) (look ! 9 refl)) (and-then ! (loads ! (from ! (stop !)) (look ! 7 refl)) (and-then ! (loads ! (from ! (stop !)) (look ! 5 refl))
-        (and-then ! (loads ! (from ! (stop !)) (look ! 3 refl)) (no-more !)))))) (λ u′.
+        (and-then ! (loads ! (from ! (stop !)) (look ! 25 refl)) (and-then ! (loads ! (from ! (stop !)) (look ! 9 refl)) (and-then ! (loads ! (from ! (stop !)) (look ! 15 refl)) (and-then ! (loads ! (from ! (stop !)) (look ! 7 refl))
+        (and-then ! (loads ! (from ! (stop !)) (look ! 5 refl)) (and-then ! (loads ! (from ! (stop !)) (look ! 3 refl)) (no-more !))))))) (λ u′.
         answers ! tt push.ended (push.clauses 𝓤 H A mem run) (to-push (t .table) (t .value) (rowAt i)) u′ (Pushed (t .table) (rowAt i)) (λ t′ e. id⊢ 𝓤 _) (λ t′ e is. drop ! $
         land ! (from ! (stop !)) (store ! 24 refl (LL.lawful T.the-type T′.the-laws 𝓤 H A W .typed t′ _ is .0)) $
         assigns-last ! (bin ! (loads ! (from ! (stop !)) (look ! 20 refl)) (lit ! tt) (record { fits = one })) (from ! (stop !)) (store ! 20 refl (tt, record { fits = one })) $

@@ -1,20 +1,20 @@
--- `replay::list::asked_at` meets its contract: the part that is read has the 64 bytes of call i.
+-- `replay::list::asked_at` meets its contract: the part that is read has the bytes of call i.
 use Prim.Native.Nat.{ℕ, _+_, _-_, _*_}
 use mathlib.Core.List.{List}
 use mathlib.Core.Path.{_≡_, refl, _∙_}
 use native.Mathlib.Omega.{arith}
 use lib.ListN.{take, drop}
 use Rattle.callbytes.specs.declared.Asked.{Asked}
-use Rattle.callbytes.specs.Calls.{readCall}
+use Rattle.callbytes.specs.Calls.{callSize, readCall}
 use Rattle.replay.specs.List.{askedAt}
 use borrow.Author.Needs.{needs}
 use Rattle.replay.proofs.list.asked_at.Statement.{statement}
 use Rattle.replay.proofs.list.asked_at.Tie as tie
 
-its-part : (s : List ℕ) (i : ℕ) {r : Asked} → r ≡ readCall (take (64 * i + 64 - 64 * i) (drop (64 * i) s)) → r ≡ askedAt s i
+its-part : (s : List ℕ) (i : ℕ) {r : Asked} → r ≡ readCall (take (callSize * i + callSize - callSize * i) (drop (callSize * i) s)) → r ≡ askedAt s i
 unfolding askedAt
 its-part s i e =
-    let z : 64 * i + 64 - 64 * i ≡ 64 = omega arith in
+    let z : callSize * i + callSize - callSize * i ≡ callSize = omega arith in
     e ∙ rw z refl
 
 mul-from : tie.Need-mul-from

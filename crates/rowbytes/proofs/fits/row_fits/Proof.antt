@@ -18,6 +18,12 @@ add-word-2 c = search needs
 word-requires-3 : tie.Need-word-requires-3
 word-requires-3 c κs = search needs
 
+add-word-3 : tie.Need-add-word-3
+add-word-3 c = search needs
+
+word-requires-4 : tie.Need-word-requires-4
+word-requires-4 c κs = search needs
+
 add-pace-fits : tie.Need-add-pace-fits
 add-pace-fits c = search needs
 
@@ -25,7 +31,7 @@ pace-fits-requires : tie.Need-pace-fits-requires
 pace-fits-requires c κs = search needs
 
 returns : tie.Need-returns
-returns c = rw (c .pace-fits .ensures, c .before .word3 .ensures, c .before .before .word2 .ensures, c .before .before .before .word .ensures)
+returns c = rw (c .pace-fits .ensures, c .before .word4 .ensures, c .before .before .word3 .ensures, c .before .before .before .word2 .ensures, c .before .before .before .before .word .ensures)
 
 pub row-fits-spec : {M : Type 1} → statement M
 row-fits-spec =
@@ -36,6 +42,8 @@ row-fits-spec =
     word-requires-2
     add-word-2
     word-requires-3
+    add-word-3
+    word-requires-4
     add-pace-fits
     pace-fits-requires
     returns)

@@ -1,4 +1,4 @@
--- `rowbytes::read::row_at` meets its contract: each of the three words is cut to its field, and the pace stands behind them.
+-- `rowbytes::read::row_at` meets its contract: each of the four words is cut to its field, and the pace stands behind them.
 use borrow.Author.Needs.{needs}
 use Rattle.rowbytes.proofs.read.row_at.Statement.{statement}
 use Rattle.rowbytes.proofs.read.row_at.Tie as tie
@@ -15,6 +15,12 @@ add-pace-at c = search needs
 pace-at-requires : tie.Need-pace-at-requires
 pace-at-requires c κs = search needs
 
+add-word : tie.Need-add-word
+add-word c = search needs
+
+word-requires-2 : tie.Need-word-requires-2
+word-requires-2 c κs = search needs
+
 add-u16-at : tie.Need-add-u16-at
 add-u16-at c = search needs
 
@@ -28,7 +34,10 @@ u32-at-requires : tie.Need-u32-at-requires
 u32-at-requires c κs = search needs
 
 returns : tie.Need-returns
-returns c = rw (c .u32-at .ensures, c .before .u16-at .ensures, c .before .before .pace-at .ensures, c .before .before .before .class-of .ensures, c .before .before .before .before .word .ensures)
+returns c =
+    let tag = c .before .before in
+    let class = tag .before .before in
+    rw (c .u32-at .ensures, c .before .u16-at .ensures, tag .word2 .ensures, tag .before .pace-at .ensures, class .class-of .ensures, class .before .word .ensures)
 
 pub row-at-spec : {M : Type 1} → statement M
 row-at-spec =
@@ -38,6 +47,8 @@ row-at-spec =
     class-of-requires
     add-pace-at
     pace-at-requires
+    add-word
+    word-requires-2
     add-u16-at
     u16-at-requires
     add-u32-at

@@ -44,7 +44,7 @@ returns c =
     let l = now (s .args .s) in
     let stands = b .deadline-stands .ensures in
     let place = p .deadline-place .ensures .0 in
-    judged-told Deadline l _ (s .pre .0 .0) stands place (deadline-stated l (s .pre .0 .0) stands place (s .pre .0 .1) (v .u32-at .ensures)) (c .before .deadline-ok .ensures) (ap (λ n. eqb (v .u32-at .result) n) (d .default-deadline .ensures ∙ default-by-pace (s .args .paced) (v .u32-at .result))) (c .field-fault .ensures)
+    judged-told _ Deadline l _ (s .pre .0 .0) stands place (deadline-stated _ l (s .pre .0 .0) stands place (s .pre .0 .1) (v .u32-at .ensures)) (c .before .deadline-ok .ensures) (ap (λ n. eqb (v .u32-at .result) n) (d .default-deadline .ensures ∙ default-by-pace (s .args .edition) (s .args .paced) (v .u32-at .result))) (c .field-fault .ensures)
 
 pub deadline-fault-spec : {M : Type 1} → statement M
 deadline-fault-spec =

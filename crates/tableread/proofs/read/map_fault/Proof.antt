@@ -45,11 +45,11 @@ returns c =
     let s = e .before .before in
     let l = now (s .args .s) in
     let at = s .args .at in
-    let bits = b .fault-unless2 .ensures ∙ ap (λ x. unless x 4 at) (r .reserved-clear .ensures ∙ ap reservedClear (s .pre)) in
+    let bits = b .fault-unless2 .ensures ∙ ap (λ x. unless x 4 at) (r .reserved-clear .ensures ∙ ap (reservedClear (s .args .edition)) (s .pre)) in
     let paces = p .fault-unless3 .ensures ∙ ap (λ x. unless (not x) 19 at) (t .two-paces .ensures ∙ ap twoPaces (s .pre)) in
-    joined (unless (leb 1 (length l)) 1 at ∷ []) (unless (reservedClear (mapOf l)) 4 at ∷ unless (not (twoPaces (mapOf l))) 19 at ∷ [])
+    joined (unless (leb 1 (length l)) 1 at ∷ []) (unless (reservedClear (s .args .edition) (mapOf l)) 4 at ∷ unless (not (twoPaces (mapOf l))) 19 at ∷ [])
     (e .fault-unless .ensures ∙ alone _)
-    (joined (unless (reservedClear (mapOf l)) 4 at ∷ []) (unless (not (twoPaces (mapOf l))) 19 at ∷ []) (bits ∙ alone _) (paces ∙ alone _) (j .first-of .ensures))
+    (joined (unless (reservedClear (s .args .edition) (mapOf l)) 4 at ∷ []) (unless (not (twoPaces (mapOf l))) 19 at ∷ []) (bits ∙ alone _) (paces ∙ alone _) (j .first-of .ensures))
     (c .first-of2 .ensures)
 
 pub map-fault-spec : {M : Type 1} → statement M

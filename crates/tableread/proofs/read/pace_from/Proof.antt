@@ -31,7 +31,7 @@ returns c =
     let r = i .before in
     let s = r .before .before in
     let l = now (s .args .s) in
-    by-rate l _ (s .pre) (r .rate-stands .ensures) (i .if1 .taken) (number-here Rate l (s .pre) (p .rate-place .ensures .0) (v .u32-at .ensures)) (number-here Samples l (s .pre) (n .samples-place .ensures .0) (c .byte .ensures ∙ sym (one-byte l _)))
+    by-rate _ l _ (s .pre) (r .rate-stands .ensures) (i .if1 .taken) (number-here Rate l (s .pre) (p .rate-place .ensures .0) (v .u32-at .ensures)) (number-here Samples l (s .pre) (n .samples-place .ensures .0) (c .byte .ensures ∙ sym (one-byte l _)))
 
 period-stands-requires : tie.Need-period-stands-requires
 period-stands-requires c κs = search needs
@@ -51,7 +51,7 @@ returns-2 c =
     let r = e .before in
     let s = r .before .before in
     let l = now (s .args .s) in
-    by-period l _ (s .pre) (r .rate-stands .ensures) (e .if1 .left) (stated Period l (s .pre) (t .period-stands .ensures) _ (i .if2 .taken) (p .period-place .ensures .0) (c .u32-at2 .ensures))
+    by-period _ l _ (s .pre) (r .rate-stands .ensures) (e .if1 .left) (stated Period l (s .pre) (t .period-stands .ensures) _ (i .if2 .taken) (p .period-place .ensures .0) (c .u32-at2 .ensures))
 
 default-period-requires : tie.Need-default-period-requires
 default-period-requires c κs = search needs
@@ -64,7 +64,7 @@ returns-3 c =
     let r = e .before in
     let s = r .before .before in
     let l = now (s .args .s) in
-    by-period l _ (s .pre) (r .rate-stands .ensures) (e .if1 .left) (unstated Period l (s .pre) (t .period-stands .ensures) _ (i .if2 .left) (c .default-period .ensures))
+    by-period _ l _ (s .pre) (r .rate-stands .ensures) (e .if1 .left) (unstated Period l (s .pre) (t .period-stands .ensures) _ (i .if2 .left) (c .default-period .ensures))
 
 pub pace-from-spec : {M : Type 1} → statement M
 pace-from-spec =

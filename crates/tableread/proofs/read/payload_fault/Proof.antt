@@ -31,7 +31,7 @@ returns c =
     let a = p .before .before in
     let s = a .before .before in
     let l = now (s .args .s) in
-    field-told Payload l _ (s .pre .0 .0) (p .payload-stands .ensures) refl (row-built l (s .pre .0 .1)) refl refl (ap (λ d. eqb (s .args .row .payload) d) (a .default-payload .ensures)) (c .field-fault .ensures)
+    field-told _ Payload l _ (s .pre .0 .0) (p .payload-stands .ensures) refl (row-built _ l (s .pre .0 .1)) refl refl (ap (λ d. eqb (s .args .row .payload) d) (a .default-payload .ensures)) (c .field-fault .ensures)
 
 pub payload-fault-spec : {M : Type 1} → statement M
 payload-fault-spec =

@@ -43,7 +43,7 @@ returns c =
     let p = v .before in
     let s = p .before .before in
     let l = now (s .args .s) in
-    field-told Period l _ (s .pre .0 .0) (e .period-stands .ensures) (p .period-place .ensures .0) (row-built l (s .pre .0 .1)) refl (c .before .period-ok .ensures ∙ ap periodOk (v .stated .ensures)) (ap (λ n. eqb n (d .default-period .result)) (v .stated .ensures) ∙ ap (eqb (statedOf (s .args .row .pace))) (d .default-period .ensures)) (c .field-fault .ensures)
+    field-told _ Period l _ (s .pre .0 .0) (e .period-stands .ensures) (p .period-place .ensures .0) (row-built _ l (s .pre .0 .1)) refl (c .before .period-ok .ensures ∙ ap periodOk (v .stated .ensures)) (ap (λ n. eqb n (d .default-period .result)) (v .stated .ensures) ∙ ap (eqb (statedOf (s .args .row .pace))) (d .default-period .ensures)) (c .field-fault .ensures)
 
 pub period-fault-spec : {M : Type 1} → statement M
 period-fault-spec =

@@ -67,9 +67,9 @@ returns c =
     let s = b .before .before in
     let l = now (s .args .s) in
     let at = s .args .at in
-    joined (fieldChecks Rate l at) (fieldChecks Samples l at)
-    (field-told Rate l at (s .pre .0 .0) (b .rate-stands .ensures) (p .rate-place .ensures .0) (row-built l (s .pre .0 .1)) refl (k .rate-ok .ensures ∙ ap rateOk (v .rate .ensures)) refl (x .field-fault .ensures))
-    (field-told Samples l at (s .pre .0 .0) (b .rate-stands .ensures ∙ bit-shared _) (q .samples-place .ensures .0) (row-built l (s .pre .0 .1)) refl (o .samples-ok .ensures ∙ ap samplesOk (n .samples .ensures)) refl (y .field-fault2 .ensures))
+    joined (fieldChecks (s .args .edition) Rate l at) (fieldChecks (s .args .edition) Samples l at)
+    (field-told _ Rate l at (s .pre .0 .0) (b .rate-stands .ensures) (p .rate-place .ensures .0) (row-built _ l (s .pre .0 .1)) refl (k .rate-ok .ensures ∙ ap rateOk (v .rate .ensures)) refl (x .field-fault .ensures))
+    (field-told _ Samples l at (s .pre .0 .0) (b .rate-stands .ensures ∙ bit-shared _) (q .samples-place .ensures .0) (row-built _ l (s .pre .0 .1)) refl (o .samples-ok .ensures ∙ ap samplesOk (n .samples .ensures)) refl (y .field-fault2 .ensures))
     (c .first-of .ensures)
 
 pub rated-fault-spec : {M : Type 1} → statement M

@@ -1,46 +1,26 @@
--- `tableread::read::read` meets its contract: what is wrong with the header is the file's first refusal, and behind a header that passes the rows decide.
-use mathlib.Core.Path.{sym, _∙_, ap}
+-- `tableread::read::read` meets its contract: the file is read in the edition that its letters name.
+use mathlib.Core.Path.{_≡_}
+use Prim.Native.Nat.{ℕ}
+use mathlib.Core.List.{List}
 use borrow.Author.Needs.{needs}
-use Rattle.tablefile.specs.Reading.{outcomeOf}
-use Rattle.tableread.proofs.Files.{refused-header}
+use Rattle.tablefile.specs.declared.Edition.{Edition}
+use Rattle.tablefile.specs.declared.Loaded.{Loaded}
+use Rattle.tablefile.specs.Reading.{readAs, editionOf, readFile, Reads}
 use Rattle.tableread.proofs.read.read.Statement.{statement}
 use Rattle.tableread.proofs.read.read.Tie as tie
 
-read-header-requires : tie.Need-read-header-requires
-read-header-requires c κs = search needs
+found : (s : List ℕ) {e : Edition} {r : Loaded} → e ≡ editionOf s → Reads (readAs e s) r → Reads (readFile s) r
+unfolding readFile
+found s h read = rw h at read
 
-enum-known-fault : tie.Need-enum-known-fault
-enum-known-fault c = search needs
+edition-of-requires : tie.Need-edition-of-requires
+edition-of-requires c κs = search needs
 
-refused-requires : tie.Need-refused-requires
-refused-requires c κs = search needs
+read-as-requires : tie.Need-read-as-requires
+read-as-requires c κs = search needs
 
 returns : tie.Need-returns
-returns c = refused-header _ (c .refused .ensures) (c .before .before .before .before .read-header .ensures) (c .before .before .fault .given .1)
-
-enum-told : tie.Need-enum-told
-enum-told c = search needs
-
-header-table-requires : tie.Need-header-table-requires
-header-table-requires c κs = search needs
-
-read-rows-requires : tie.Need-read-rows-requires
-read-rows-requires c κs =
-    let r = c .before .before .before in
-    (sym (r .read-header .ensures) ∙ ap outcomeOf (c .before .enum-told .given .1), c .header-table .ensures)
-
-returns-2 : tie.Need-returns-2
-returns-2 c = search needs
+returns c = found _ (c .before .edition-of .ensures) (c .read-as .ensures)
 
 pub read-spec : {M : Type 1} → statement M
-read-spec =
-    tie.close
-    (tie.spec
-    read-header-requires
-    enum-known-fault
-    refused-requires
-    returns
-    enum-told
-    header-table-requires
-    read-rows-requires
-    returns-2)
+read-spec = tie.close (tie.spec edition-of-requires read-as-requires returns)

@@ -6,13 +6,13 @@ use Rattle.tableread.proofs.read.read_header.Statement.{statement}
 use Rattle.tableread.proofs.read.read_header.Tie as tie
 
 returns : tie.Need-returns
-returns c = short _ (c .if1 .taken)
+returns c = short _ _ (c .if1 .taken)
 
-opens-right-requires : tie.Need-opens-right-requires
-opens-right-requires c κs = search needs
+opens-as-requires : tie.Need-opens-as-requires
+opens-as-requires c κs = search needs
 
 returns-2 : tie.Need-returns-2
-returns-2 c = other-letters _ (c .before .before .if1 .left) (law.fails (c .before .opens-right .ensures) (c .if2 .taken))
+returns-2 c = other-letters _ _ (c .before .before .if1 .left) (law.fails (c .before .opens-as .ensures) (c .if2 .taken))
 
 u32-at-requires : tie.Need-u32-at-requires
 u32-at-requires c κs = search needs
@@ -22,7 +22,7 @@ returns-3 c =
     let a = c .before .before in
     let o = a .before in
     let i = o .before in
-    high-a _ (i .if1 .left) (law.holds (o .opens-right .ensures) (a .if2 .left)) (c .before .u32-at .ensures) (c .if3 .taken)
+    high-a _ _ (i .if1 .left) (law.holds (o .opens-as .ensures) (a .if2 .left)) (c .before .u32-at .ensures) (c .if3 .taken)
 
 u32-at-requires-2 : tie.Need-u32-at-requires-2
 u32-at-requires-2 c κs = search needs
@@ -34,7 +34,7 @@ returns-4 c =
     let a = u .before in
     let o = a .before in
     let i = o .before in
-    high-b _ (i .if1 .left) (law.holds (o .opens-right .ensures) (a .if2 .left)) (u .u32-at .ensures) (b .if3 .left) (c .before .u32-at2 .ensures) (c .if4 .taken)
+    high-b _ _ (i .if1 .left) (law.holds (o .opens-as .ensures) (a .if2 .left)) (u .u32-at .ensures) (b .if3 .left) (c .before .u32-at2 .ensures) (c .if4 .taken)
 
 u16-at-requires : tie.Need-u16-at-requires
 u16-at-requires c κs = search needs
@@ -48,7 +48,7 @@ returns-5 c =
     let a = u .before in
     let o = a .before in
     let i = o .before in
-    high-payload _ (i .if1 .left) (law.holds (o .opens-right .ensures) (a .if2 .left)) (u .u32-at .ensures) (b .if3 .left) (d .u32-at2 .ensures) (e .if4 .left) (c .before .u16-at .ensures) (c .if5 .taken)
+    high-payload _ _ (i .if1 .left) (law.holds (o .opens-as .ensures) (a .if2 .left)) (u .u32-at .ensures) (b .if3 .left) (d .u32-at2 .ensures) (e .if4 .left) (c .before .u16-at .ensures) (c .if5 .taken)
 
 byte-requires : tie.Need-byte-requires
 byte-requires c κs = search needs
@@ -67,7 +67,7 @@ returns-6 c =
     let a = u .before in
     let o = a .before in
     let i = o .before in
-    no-rows _ (i .if1 .left) (law.holds (o .opens-right .ensures) (a .if2 .left)) (u .u32-at .ensures) (b .if3 .left) (d .u32-at2 .ensures) (e .if4 .left) (f .u16-at .ensures) (g .if5 .left) (c .before .byte .ensures) (c .if6 .taken)
+    no-rows _ _ (i .if1 .left) (law.holds (o .opens-as .ensures) (a .if2 .left)) (u .u32-at .ensures) (b .if3 .left) (d .u32-at2 .ensures) (e .if4 .left) (f .u16-at .ensures) (g .if5 .left) (c .before .byte .ensures) (c .if6 .taken)
 
 returns-7 : tie.Need-returns-7
 returns-7 c =
@@ -81,7 +81,7 @@ returns-7 c =
     let a = u .before in
     let o = a .before in
     let i = o .before in
-    many-rows _ (i .if1 .left) (law.holds (o .opens-right .ensures) (a .if2 .left)) (u .u32-at .ensures) (b .if3 .left) (d .u32-at2 .ensures) (e .if4 .left) (f .u16-at .ensures) (g .if5 .left) (h .byte .ensures) (c .before .if6 .left) (c .if7 .taken)
+    many-rows _ _ (i .if1 .left) (law.holds (o .opens-as .ensures) (a .if2 .left)) (u .u32-at .ensures) (b .if3 .left) (d .u32-at2 .ensures) (e .if4 .left) (f .u16-at .ensures) (g .if5 .left) (h .byte .ensures) (c .before .if6 .left) (c .if7 .taken)
 
 returns-8 : tie.Need-returns-8
 returns-8 c =
@@ -95,14 +95,14 @@ returns-8 c =
     let a = u .before in
     let o = a .before in
     let i = o .before in
-    right _ (i .if1 .left) (law.holds (o .opens-right .ensures) (a .if2 .left)) (u .u32-at .ensures) (b .if3 .left) (d .u32-at2 .ensures) (e .if4 .left) (f .u16-at .ensures) (g .if5 .left) (h .byte .ensures) (c .before .if6 .left) (c .if7 .left)
+    right _ _ (i .if1 .left) (law.holds (o .opens-as .ensures) (a .if2 .left)) (u .u32-at .ensures) (b .if3 .left) (d .u32-at2 .ensures) (e .if4 .left) (f .u16-at .ensures) (g .if5 .left) (h .byte .ensures) (c .before .if6 .left) (c .if7 .left)
 
 pub read-header-spec : {M : Type 1} → statement M
 read-header-spec =
     tie.close
     (tie.spec
     returns
-    opens-right-requires
+    opens-as-requires
     returns-2
     u32-at-requires
     returns-3

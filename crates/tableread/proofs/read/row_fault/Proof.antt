@@ -58,11 +58,12 @@ returns c =
     let s = m .before .before in
     let l = now (s .args .s) in
     let at = s .args .at in
-    let stated = fieldChecks Payload l at ++ fieldChecks Period l at in
-    let rated = fieldChecks Rate l at ++ fieldChecks Samples l at in
-    joined (mapChecks l at ++ stated) (present Deadline l at ∷ (rated ++ judged Deadline l at ∷ []))
-    (joined (mapChecks l at) stated (m .map-fault .ensures) (joined (fieldChecks Payload l at) (fieldChecks Period l at) (p .payload-fault .ensures) (q .period-fault .ensures) (g .first-of .ensures)) (h .first-of2 .ensures))
-    (joined (present Deadline l at ∷ []) (rated ++ judged Deadline l at ∷ []) (d .deadline-absent .ensures ∙ alone _) (joined rated (judged Deadline l at ∷ []) (r .rated-fault .ensures) (e .deadline-fault .ensures ∙ alone _) (j .first-of3 .ensures)) (k .first-of4 .ensures))
+    let ed = s .args .edition in
+    let stated = fieldChecks ed Payload l at ++ fieldChecks ed Period l at in
+    let rated = fieldChecks ed Rate l at ++ fieldChecks ed Samples l at in
+    joined (mapChecks ed l at ++ stated) (present Deadline l at ∷ (rated ++ judged ed Deadline l at ∷ []))
+    (joined (mapChecks ed l at) stated (m .map-fault .ensures) (joined (fieldChecks ed Payload l at) (fieldChecks ed Period l at) (p .payload-fault .ensures) (q .period-fault .ensures) (g .first-of .ensures)) (h .first-of2 .ensures))
+    (joined (present Deadline l at ∷ []) (rated ++ judged ed Deadline l at ∷ []) (d .deadline-absent .ensures ∙ alone _) (joined rated (judged ed Deadline l at ∷ []) (r .rated-fault .ensures) (e .deadline-fault .ensures ∙ alone _) (j .first-of3 .ensures)) (k .first-of4 .ensures))
     (c .first-of5 .ensures)
 
 pub row-fault-spec : {M : Type 1} → statement M

@@ -21,7 +21,7 @@ returns c =
     let d = i .before in
     let s = d .before .before in
     let l = now (s .args .s) in
-    deadline-put l (s .args .before) (stated Deadline l (s .pre .0) (d .deadline-stands .ensures) _ (i .if1 .taken) (c .before .deadline-place .ensures .0) (c .u32-at .ensures))
+    deadline-put _ l (s .args .before) (stated Deadline l (s .pre .0) (d .deadline-stands .ensures) _ (i .if1 .taken) (c .before .deadline-place .ensures .0) (c .u32-at .ensures))
 
 default-deadline-requires : tie.Need-default-deadline-requires
 default-deadline-requires c κs = search needs
@@ -35,7 +35,7 @@ returns-2 c =
     let d = c .before .before in
     let s = d .before .before in
     let l = now (s .args .s) in
-    deadline-put l (s .args .before) (unstated Deadline l (s .pre .0) (d .deadline-stands .ensures) _ (c .before .if1 .left) (c .default-deadline .ensures))
+    deadline-put _ l (s .args .before) (unstated Deadline l (s .pre .0) (d .deadline-stands .ensures) _ (c .before .if1 .left) (c .default-deadline .ensures))
 
 pub with-deadline-spec : {M : Type 1} → statement M
 with-deadline-spec =

@@ -17,7 +17,7 @@ returns : tie.Need-returns
 returns c =
     let p = c .before .before in
     let s = p .before .before in
-    payload-put (now (s .args .s)) (s .args .before) (stated Payload _ (s .pre) (p .payload-stands .ensures) _ (c .before .if1 .taken) refl (c .u16-at .ensures))
+    payload-put _ (now (s .args .s)) (s .args .before) (stated Payload _ (s .pre) (p .payload-stands .ensures) _ (c .before .if1 .taken) refl (c .u16-at .ensures))
 
 default-payload-requires : tie.Need-default-payload-requires
 default-payload-requires c κs = search needs
@@ -26,7 +26,7 @@ returns-2 : tie.Need-returns-2
 returns-2 c =
     let p = c .before .before in
     let s = p .before .before in
-    payload-put (now (s .args .s)) (s .args .before) (unstated Payload (now (s .args .s)) (s .pre) (p .payload-stands .ensures) _ (c .before .if1 .left) (c .default-payload .ensures))
+    payload-put _ (now (s .args .s)) (s .args .before) (unstated Payload (now (s .args .s)) (s .pre) (p .payload-stands .ensures) _ (c .before .if1 .left) (c .default-payload .ensures))
 
 pub with-payload-spec : {M : Type 1} → statement M
 with-payload-spec =

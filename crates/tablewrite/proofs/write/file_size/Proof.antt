@@ -15,13 +15,13 @@ use Rattle.tablewrite.proofs.write.file_size.Statement.{statement}
 use Rattle.tablewrite.proofs.write.file_size.Tie as tie
 
 abbrev Inv-loop : tie.InvT-loop
-Inv-loop t count size₀ i₀ size i = (count ≡ t .count) × (i ≤ t .count) × (t .count ≤ mostRows) × (size ≤ headerSize + 16 * i) × (size + length (rest t i) ≡ length (fileOf (contents t)))
+Inv-loop ed t count size₀ i₀ size i = (count ≡ t .count) × (i ≤ t .count) × (t .count ≤ mostRows) × (size ≤ headerSize + 16 * i) × (size + length (rest ed t i) ≡ length (fileOf ed (contents t)))
 
 abbrev μ-loop : tie.MeasureT-loop
-μ-loop t count size₀ i₀ size i = count - i
+μ-loop ed t count size₀ i₀ size i = count - i
 
 loop-holds : tie.Need-loop-holds Inv-loop μ-loop
-loop-holds c = (refl, omega arith, c .pre, omega arith, size-start (c .args .t1))
+loop-holds c = (refl, omega arith, c .pre, omega arith, size-start _ (c .args .t2))
 
 mul-map-byte : tie.Need-mul-map-byte Inv-loop μ-loop
 mul-map-byte c = omega arith
@@ -50,15 +50,15 @@ loop-again c =
     let b = a .before in
     let s = b .before in
     let l = b .loop in
-    let t = s .args .t1 in
-    (refl, omega arith, s .pre, omega arith, rw (size-is _ (c .before .map-byte .ensures) (c .row-size .ensures .0)) (size-next t (places t _ (s .good .0)) (s .pre) (l .i) (l .size) (a .loop-test .taken) (l .inv .4)))
+    let t = s .args .t2 in
+    (refl, omega arith, s .pre, omega arith, rw (size-is _ _ (c .before .map-byte .ensures) (c .row-size .ensures .0)) (size-next _ t (places t _ (s .good .1 .0)) (s .pre) (l .i) (l .size) (a .loop-test .taken) (l .inv .4)))
 
 returns : tie.Need-returns Inv-loop μ-loop
 returns c =
     let s = c .before .before in
     let l = c .before .loop in
-    let t = s .args .t1 in
-    size-end t (places t _ (s .good .0)) (s .pre) (l .i) (l .size) (c .loop-test .left) (l .inv .4)
+    let t = s .args .t2 in
+    size-end _ t (places t _ (s .good .1 .0)) (s .pre) (l .i) (l .size) (c .loop-test .left) (l .inv .4)
 
 pub file-size-spec : {M : Type 1} → statement M
 file-size-spec =

@@ -18,10 +18,10 @@ enum-told : tie.Need-enum-told
 enum-told c = search needs
 
 returns : tie.Need-returns
-returns c = (period-stated _ (c .before .before .before .pace .given .1) (c .before .default-period .ensures) (c .bit-for .ensures .0), omega arith)
+returns c = (period-stated _ _ (c .before .before .before .pace .given .1) (c .before .default-period .ensures) (c .bit-for .ensures .0), omega arith)
 
 returns-2 : tie.Need-returns-2
-returns-2 c = (rate-stated _ (c .enum-told .given .1), omega arith)
+returns-2 c = (rate-stated _ _ (c .enum-told .given .1), omega arith)
 
 pub pace-bit-spec : {M : Type 1} → statement M
 pace-bit-spec =

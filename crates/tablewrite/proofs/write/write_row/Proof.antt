@@ -12,7 +12,7 @@ map-byte-requires : tie.Need-map-byte-requires
 map-byte-requires c κs = search needs
 
 put-requires : tie.Need-put-requires
-put-requires c κs = omega (arith, row-length (c .before .before .before .args .row))
+put-requires c κs = omega (arith, row-length (c .before .before .before .args .edition) (c .before .before .before .args .row))
 
 payload-stands-requires : tie.Need-payload-stands-requires
 payload-stands-requires c κs = search needs
@@ -21,7 +21,7 @@ put-field16-requires : tie.Need-put-field16-requires
 put-field16-requires c κs =
     let m = c .before .before .before .before .before .before in
     let s = m .before .before in
-    let h = field-room (s .args .row) (m .map-byte .ensures) Payload (c .payload-stands .ensures) refl refl in
+    let h = field-room (s .args .edition) (s .args .row) (m .map-byte .ensures) Payload (c .payload-stands .ensures) refl refl in
     omega (arith, h)
 
 period-place-requires : tie.Need-period-place-requires
@@ -36,10 +36,12 @@ stated-requires c κs = search needs
 put-field32-requires : tie.Need-put-field32-requires
 put-field32-requires c κs =
     let b = c .before in
-    let m = b .before .before .before .before .before .before .before .before .before .before .before .before in
+    let w = b .before .before .before .before in
+    let a = w .before .before .before .before .before in
+    let m = a .before .before .before in
     let s = m .before .before in
-    let h = field-room (s .args .row) (m .map-byte .ensures) Period (b .period-stands .ensures) (b .before .period-place .ensures .0) (c .stated .ensures) in
-    omega (arith, h)
+    let h = field-room (s .args .edition) (s .args .row) (m .map-byte .ensures) Period (b .period-stands .ensures) (b .before .period-place .ensures .0) (c .stated .ensures) in
+    omega (arith, h, s .pre, w .out2 .given, a .out .given)
 
 deadline-place-requires : tie.Need-deadline-place-requires
 deadline-place-requires c κs = search needs
@@ -49,10 +51,13 @@ deadline-stands-requires c κs = search needs
 
 put-field32-requires-2 : tie.Need-put-field32-requires-2
 put-field32-requires-2 c κs =
-    let m = c .before .before .before .before .before .before .before .before .before .before .before .before .before .before .before .before .before .before .before in
+    let x = c .before .before .before .before in
+    let w = x .before .before .before .before .before .before .before in
+    let a = w .before .before .before .before .before in
+    let m = a .before .before .before in
     let s = m .before .before in
-    let h = field-room (s .args .row) (m .map-byte .ensures) Deadline (c .deadline-stands .ensures) (c .before .deadline-place .ensures .0) refl in
-    omega (arith, h)
+    let h = field-room (s .args .edition) (s .args .row) (m .map-byte .ensures) Deadline (c .deadline-stands .ensures) (c .before .deadline-place .ensures .0) refl in
+    omega (arith, h, s .pre, x .out3 .given, w .out2 .given, a .out .given)
 
 rate-place-requires : tie.Need-rate-place-requires
 rate-place-requires c κs = search needs
@@ -68,7 +73,7 @@ put-rated-requires c κs =
     let a = w .before .before .before .before .before in
     let m = a .before .before .before in
     let s = m .before .before in
-    let h = rated-room (s .args .row) (m .map-byte .ensures) (c .rate-stands .ensures) (c .before .rate-place .ensures .0) in
+    let h = rated-room (s .args .edition) (s .args .row) (m .map-byte .ensures) (c .rate-stands .ensures) (c .before .rate-place .ensures .0) in
     omega (arith, h, s .pre, y .out4 .given, x .out3 .given, w .out2 .given, a .out .given)
 
 row-size-requires : tie.Need-row-size-requires
@@ -94,10 +99,10 @@ returns c =
     let a = b .before .before .before .before in
     let s = a .before .before .before .before in
     let m = a .before .before .map-byte .ensures in
-    let one = field-stored _ m Payload (b .payload-stands .ensures) refl refl (map-stored _ m _ (a .put .ensures)) (w .put-field16 .ensures) in
-    let two = field-stored _ m Period (ps .period-stands .ensures) (pp .period-place .ensures .0) (v .stated .ensures) one (x .put-field32 .ensures) in
-    let three = field-stored _ m Deadline (ds .deadline-stands .ensures) (dp .deadline-place .ensures .0) refl two (y .put-field322 .ensures) in
-    (size-is _ m (c .row-size .ensures .0), row-stored _ m (rs .rate-stands .ensures) (rp .rate-place .ensures .0) _ (s .pre) three (z .put-rated .ensures))
+    let one = field-stored _ _ m Payload (b .payload-stands .ensures) refl refl (map-stored _ _ m _ (a .put .ensures)) (w .put-field16 .ensures) in
+    let two = field-stored _ _ m Period (ps .period-stands .ensures) (pp .period-place .ensures .0) (v .stated .ensures) one (x .put-field32 .ensures) in
+    let three = field-stored _ _ m Deadline (ds .deadline-stands .ensures) (dp .deadline-place .ensures .0) refl two (y .put-field322 .ensures) in
+    (size-is _ _ m (c .row-size .ensures .0), row-stored _ _ m (rs .rate-stands .ensures) (rp .rate-place .ensures .0) _ (s .pre) three (z .put-rated .ensures))
 
 pub write-row-spec : {M : Type 1} → statement M
 write-row-spec =

@@ -14,13 +14,13 @@ use Rattle.tablewrite.proofs.write.write_rows.Statement.{statement}
 use Rattle.tablewrite.proofs.write.write_rows.Tie as tie
 
 abbrev Inv-loop : tie.InvT-loop
-Inv-loop out₀ t n at₀ i₀ out at i = (n ≡ t .count) × (i ≤ t .count) × (t .count ≤ mostRows) × (length out ≡ length out₀) × (at + length (rest t i) ≡ length (fileOf (contents t))) × (sets out at (rest t i) ≡ sets out₀ headerSize (rest t 0))
+Inv-loop ed out₀ t n at₀ i₀ out at i = (n ≡ t .count) × (i ≤ t .count) × (t .count ≤ mostRows) × (length out ≡ length out₀) × (at + length (rest ed t i) ≡ length (fileOf ed (contents t))) × (sets out at (rest ed t i) ≡ sets out₀ headerSize (rest ed t 0))
 
 abbrev μ-loop : tie.MeasureT-loop
-μ-loop out₀ t n at₀ i₀ out at i = n - i
+μ-loop ed out₀ t n at₀ i₀ out at i = n - i
 
 loop-holds : tie.Need-loop-holds Inv-loop μ-loop
-loop-holds c = (refl, omega arith, c .before .pre .0, refl, size-start (c .before .args .t1), refl)
+loop-holds c = (refl, omega arith, c .before .pre .0, refl, size-start _ (c .before .args .t2), refl)
 
 mul-write-row : tie.Need-mul-write-row Inv-loop μ-loop
 mul-write-row c = omega arith
@@ -41,8 +41,8 @@ write-row-requires : tie.Need-write-row-requires Inv-loop μ-loop
 write-row-requires c κs =
     let s = c .before .before .before .before .before in
     let l = c .before .before .before .loop in
-    let t = s .args .t1 in
-    part-room t (places t _ (s .good .0)) (s .pre .0) (l .i) (l .at) (l .out) (c .before .before .loop-test .taken) (l .inv .4) (omega arith)
+    let t = s .args .t2 in
+    part-room _ t (places t _ (s .good .1 .0)) (s .pre .0) (l .i) (l .at) (l .out) (c .before .before .loop-test .taken) (l .inv .4) (omega arith)
 
 add-at : tie.Need-add-at Inv-loop μ-loop
 add-at c =
@@ -51,8 +51,8 @@ add-at c =
     let b = a .before in
     let s = b .before in
     let l = a .loop in
-    let t = s .args .t1 in
-    omega (arith, row-room t (places t _ (s .good .0)) (s .pre .0) (l .i) (l .at) (l .out) (d .loop-test .taken) (l .inv .4) (omega arith))
+    let t = s .args .t2 in
+    omega (arith, row-room _ t (places t _ (s .good .1 .0)) (s .pre .0) (l .i) (l .at) (l .out) (d .loop-test .taken) (l .inv .4) (omega arith))
 
 add-i : tie.Need-add-i Inv-loop μ-loop
 add-i c = omega arith
@@ -64,16 +64,16 @@ loop-again : tie.Need-loop-again Inv-loop μ-loop
 loop-again c =
     let s = c .before .before .before .before .before .before .before .before in
     let l = c .before .before .before .before .before .before .loop in
-    let t = s .args .t1 in
-    let long = places t _ (s .good .0) in
+    let t = s .args .t2 in
+    let long = places t _ (s .good .1 .0) in
     let more = c .before .before .before .before .before .loop-test .taken in
     let w = c .before .before .write-row .ensures in (
       refl,
       omega arith,
       s .pre .0,
-      stored-length t long (s .pre .0) (l .i) (l .at) (l .out) more (l .inv .4) (omega arith) (w .1) ∙ l .inv .3,
-      rw (w .0) (size-next t long (s .pre .0) (l .i) (l .at) more (l .inv .4)),
-      rw (w .0) (stored-next t long (s .pre .0) (l .i) (l .at) (l .out) more (l .inv .4) (omega arith) (w .1) ∙ l .inv .5),
+      stored-length _ t long (s .pre .0) (l .i) (l .at) (l .out) more (l .inv .4) (omega arith) (w .1) ∙ l .inv .3,
+      rw (w .0) (size-next _ t long (s .pre .0) (l .i) (l .at) more (l .inv .4)),
+      rw (w .0) (stored-next _ t long (s .pre .0) (l .i) (l .at) (l .out) more (l .inv .4) (omega arith) (w .1) ∙ l .inv .5),
     )
 
 same-length : tie.Need-same-length Inv-loop μ-loop
@@ -83,8 +83,8 @@ returns : tie.Need-returns Inv-loop μ-loop
 returns c =
     let s = c .before .before .before in
     let l = c .before .loop in
-    let t = s .args .t1 in
-    sym (stored-end t (places t _ (s .good .0)) (s .pre .0) (l .i) (l .at) (l .out) (c .loop-test .left)) ∙ l .inv .5
+    let t = s .args .t2 in
+    sym (stored-end _ t (places t _ (s .good .1 .0)) (s .pre .0) (l .i) (l .at) (l .out) (c .loop-test .left)) ∙ l .inv .5
 
 pub write-rows-spec : {M : Type 1} → statement M
 write-rows-spec =
