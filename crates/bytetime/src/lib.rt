@@ -5,7 +5,7 @@ pub mod senders;
 mod start;
 
 // Whose frame is on the wire.
-#[derive(Drop)]
+#[derive(Clone, Copy)]
 pub enum Sender {
     Nobody,
     ClassA,
@@ -15,7 +15,7 @@ pub enum Sender {
 
 // What byte-times change: the credits, the bytes left of the frame on the wire and whose it is; whether it left its queue in these byte-times; which queues
 // have a frame waiting.
-#[derive(Drop)]
+#[derive(Clone, Copy)]
 pub struct Hot {
     pub credita: i64,
     pub creditb: i64,
@@ -28,7 +28,7 @@ pub struct Hot {
 }
 
 // What they leave alone: the idle slopes, the sizes of the heads of the queues, and whether A and B have a frame behind their head.
-#[derive(Drop)]
+#[derive(Clone, Copy)]
 pub struct Fixed {
     pub idlea: u32,
     pub idleb: u32,
@@ -40,7 +40,7 @@ pub struct Fixed {
 }
 
 // What byte-times leave: the numbers, how many have passed, and whether a frame was reported ended in the last of them.
-#[derive(Drop)]
+#[derive(Clone, Copy)]
 pub struct Ran {
     pub hot: Hot,
     pub passed: u64,

@@ -3,7 +3,7 @@ pub mod answers;
 pub mod calls;
 
 // What bytes ask for: an offer to a row (row, payload), an offer of best effort, an advance, a row to join at a number, the row at a number to leave; or nothing that can be read.
-#[derive(Drop)]
+#[derive(Clone, Copy)]
 pub enum Asked {
     Offer(u64, u64),
     OfferBest(u64),

@@ -4,7 +4,7 @@ pub mod residences;
 pub mod sums;
 
 // The rows of one class taken together: how many, the largest wire size, the sum of wire sizes, the sum of shares.
-#[derive(Drop)]
+#[derive(Clone, Copy)]
 pub struct Figures {
     pub members: u64,
     pub largest: u64,
@@ -13,7 +13,7 @@ pub struct Figures {
 }
 
 // What a class's residences are made of: idle slope, largest wire size, sum of wire sizes, blocking.
-#[derive(Drop)]
+#[derive(Clone, Copy)]
 pub struct Lane {
     pub idle: u64,
     pub largest: u64,

@@ -33,20 +33,20 @@ use Rattle.machine.specs.contracts.Port as port
 
 -- what owning a queue or a port record tells of its places
 pub queue_places : (q : Queue) (vs : List Val) → Is (Declared.row queue.the_type) q vs → length q.frames ≡ class_places
-queue_places q vs p = sym (length-map q.frames _) ∙ p.1.1.1.0.1.0.1
+queue_places q vs p = p.1.1.1.0.1.0.1
 
 pub best_places_lem : (q : BestQueue) (vs : List Val) → Is (Declared.row best.the_type) q vs → length q.frames ≡ best_places
-best_places_lem q vs p = sym (length-map q.frames _) ∙ p.1.1.1.0.1.0.1
+best_places_lem q vs p = p.1.1.1.0.1.0.1
 
 pub port_places : (p : Port) (vs : List Val) → Is (Declared.row port.the_type) p vs → Places p
 port_places p vs e =
     record {
-      rows = sym (length-map p.table.rows _) ∙ e.1.1.0.1.1.1.1.0.1.0.1;
-      a = sym (length-map p.a.frames _) ∙ e.1.1.1.1.1.1.0.1.1.1.0.1.0.1;
-      b = sym (length-map p.b.frames _) ∙ e.1.1.1.1.1.1.1.0.1.1.1.0.1.0.1;
-      best = sym (length-map p.best.frames _) ∙ e.1.1.1.1.1.1.1.1.0.1.1.1.0.1.0.1;
-      last = sym (length-map p.last _) ∙ e.1.1.1.1.1.1.1.1.1.0.1.0.1;
-      bounds = sym (length-map p.bounds _) ∙ e.1.1.1.1.1.1.1.1.1.1.0.1.0.1;
+      rows = e.1.1.0.1.1.1.1.0.1.0.1;
+      a = e.1.1.1.1.1.1.0.1.1.1.0.1.0.1;
+      b = e.1.1.1.1.1.1.1.0.1.1.1.0.1.0.1;
+      best = e.1.1.1.1.1.1.1.1.0.1.1.1.0.1.0.1;
+      last = e.1.1.1.1.1.1.1.1.1.0.1.0.1;
+      bounds = e.1.1.1.1.1.1.1.1.1.1.0.1.0.1;
     }
 
 -- ---- the frames that wait

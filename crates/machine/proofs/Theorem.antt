@@ -40,7 +40,7 @@ use Rattle.machine.proofs.Soundness.{is_sound}
 use Rattle.machine.proofs.FromSound.{clauses, in_class_places}
 use Rattle.machine.proofs.Advances.{advances}
 use Rattle.machine.proofs.Conservation.{among, on_wire, in_port_lem}
-use Rattle.machine.proofs.Trace.{row_taken, best_taken, advanced, row_joins, row_leaves, refusal, Trace, start, step, any_step, let_pass}
+use Rattle.machine.proofs.Trace.{Step, row_taken, best_taken, advanced, row_joins, row_leaves, refusal, Trace, start, step, any_step, let_pass}
 use Rattle.machine.proofs.Lists.{Along, along, takes, conserved, reported_before, no_frames, only_once, named_is}
 
 -- ---- a frame that is in the port and not reported is younger than its bound
@@ -132,6 +132,7 @@ ordered (since g) (since h) = ordered g h
 module _ (t : Contents) (ok : opening t ≡ accepted) where
   -- the list up to what happened
   up_to_lem : {e : Event} {before es : List Event} {s : State} → Trace t es s → Happened e before es → (r : State) × Trace t before r
+  up_to_lem start h = elim h [ ]
   up_to_lem (step w q) now = (_, w)
   up_to_lem (step w q) (since h) = up_to_lem w h
 
@@ -140,8 +141,17 @@ module _ (t : Contents) (ok : opening t ≡ accepted) where
   with_report (step w q) (since h) = with_report w h
 
   -- a taken offer names a row, and counts
+  rows_below : {es : List Event} (s : State) {c : Call} {a : Answer} (r : State) (row p : ℕ) → Trace t es s → Step s c a r → event c a ≡ event (offer row p) taken → row < most_rows
+  rows_below s r row p w (row_taken k q h pays late) e = let same : k ≡ row = cc in omega (arith, same, h.below, law.rows_most s.table (along t ok w).holds.inv.always.accepted)
+  rows_below s r row p w (best_taken q pays room) e = cc
+  rows_below s r row p w (advanced n room) e = cc
+  rows_below s r row p w (row_joins k x f u g a) e = cc
+  rows_below s r row p w (row_leaves k u z a) e = cc
+  rows_below s r row p w (refusal c n l g q) e = cc
+
   taken_row : {es : List Event} {s : State} (row p : ℕ) (before : List Event) → Trace t es s → Happened (event (offer row p) taken) before es → row < most_rows
-  taken_row row p before (step {s = s} w (row_taken k q h pays late)) now = omega (arith, h.below, law.rows_most s.table (along t ok w).holds.inv.always.accepted)
+  taken_row row p before start h = elim h [ ]
+  taken_row row p before (step {s = s} {r = r} w x) now = rows_below s r row p w x refl
   taken_row row p before (step w q) (since h) = taken_row row p before w h
 
   took : (row p : ℕ) (before : List Event) {es : List Event} → Happened (event (offer row p) taken) before es → 1 ≤ takes t row (clock_of before) (size_at t before row p) es
@@ -184,6 +194,7 @@ module _ (t : Contents) (ok : opening t ≡ accepted) where
     no_leave (leave k) n l = refl
 
     covers : {es : List Event} {s : State} → Trace t es s → (h : Took es) → Covered es h
+    covers start h = elim h [ ]
     covers (step w q) now = inl (refl, omega arith)
     covers (step {es = es} w (row_taken k p g pays late)) (since h) = still (event (offer k p) taken) h refl (more_reports (offer k p) taken es) (covers w h)
     covers (step {es = es} w (best_taken p pays room)) (since h) = still (event (offer_best p) taken) h refl (more_reports (offer_best p) taken es) (covers w h)
@@ -223,10 +234,11 @@ module _ (t : Contents) (ok : opening t ≡ accepted) where
         let al = along t ok w in
         in_port_used s al.holds.u al.holds.inv row inst size (taken_row row payload before w h) (omega (arith, one_or_other w h))
 
-    report_in_time : {es : List Event} {s : State} {c : Call} {a : Answer} → Trace t (event c a ∷ es) s → (h : Took es) → reported_by row inst size a ≡ 1 → clock_of (event c a ∷ es) ≤ inst + limit t row (since {f = event c a} h)
-    report_in_time (step w (row_taken k p g pays late)) h q = absurd (omega arith)
-    report_in_time (step w (best_taken p pays room)) h q = absurd (omega arith)
-    report_in_time {es} (step {s = s} w (advanced n room)) h q =
+    -- by the step that reports it
+    step_in_time : {es : List Event} (s : State) {c : Call} {a : Answer} (r : State) → Trace t es s → Step s c a r → (h : Took es) → reported_by row inst size a ≡ 1 → clock_of (event c a ∷ es) ≤ inst + limit t row (since {f = event c a} h)
+    step_in_time s r w (row_taken k p g pays late) h q = absurd (omega arith)
+    step_in_time s r w (best_taken p pays room) h q = absurd (omega arith)
+    step_in_time {es = es} s r w (advanced n room) h q =
         let grown = limit_grows (event (advance n) (passed (progress n s).passed (progress n s).ended)) h in
         let whole = one_or_other (step w (advanced n room)) (since h) in
         let none : reports row inst size es ≡ 0 = omega arith in
@@ -234,9 +246,12 @@ module _ (t : Contents) (ok : opening t ≡ accepted) where
         (λ p. omega (arith, p.1, advance_in_time n (along t ok w) (row_there w h none) room (progress n s).ended refl q))
         (λ m. absurd (omega arith))
         (covers w h)
-    report_in_time (step w (row_joins k x f u g a)) h q = absurd (omega arith)
-    report_in_time (step w (row_leaves k u z a)) h q = absurd (omega arith)
-    report_in_time (step w (refusal c n l g r)) h q = absurd (omega arith)
+    step_in_time s r w (row_joins k x f u g a) h q = absurd (omega arith)
+    step_in_time s r w (row_leaves k u z a) h q = absurd (omega arith)
+    step_in_time s r w (refusal c n l g e) h q = absurd (omega arith)
+
+    report_in_time : {es : List Event} {s : State} {c : Call} {a : Answer} → Trace t (event c a ∷ es) s → (h : Took es) → reported_by row inst size a ≡ 1 → clock_of (event c a ∷ es) ≤ inst + limit t row (since {f = event c a} h)
+    report_in_time (step {s = s} {r = r} w x) h q = step_in_time s r w x h q
 
     -- what reported it counts
     some_report : {c : Call} {a : Answer} {earlier es : List Event} → Happened (event c a) earlier es → reported_by row inst size a ≡ 1 → 1 ≤ reports row inst size es
@@ -264,6 +279,7 @@ module _ (t : Contents) (ok : opening t ≡ accepted) where
 
   -- no call meets 18
   unbroken : {es : List Event} {s : State} → Trace t es s → (c : Call) (place : ℕ) (before : List Event) → Happened (event c (denied 18 place)) before es → ⊥
+  unbroken start c place before h = elim h [ ]
   unbroken (step w (refusal d n l g r)) c place before now = g.other refl
   unbroken (step w x) c place before (since y) = unbroken w c place before y
 
@@ -275,9 +291,20 @@ module _ (t : Contents) (ok : opening t ≡ accepted) where
   passes {es} {s} w row p h g e =
       let_pass s (sound_along w) row p (rw w.table h) (rw w.table g) (rw (w.table, w.clock) (rw (w.lasts row h) e))
 
+  passes_step : {es : List Event} (s : State) {c : Call} {a b : Answer} (r : State) (row p : ℕ) → Trace t es s → Step s c a r → event c a ≡ event (offer row p) b → InUse (table_of t es) row → p ≤ (row_at (table_of t es) row).payload → too_soon (last_taken row es) (clock_of es) (period_of (row_at (table_of t es) row)) ≡ false → b ≡ taken
+  passes_step s r row p w (row_taken k q x pays late) e h g f = cc
+  passes_step s r row p w (best_taken q pays room) e h g f = cc
+  passes_step s r row p w (advanced n room) e h g f = cc
+  passes_step s r row p w (row_joins k x i u y a) e h g f = cc
+  passes_step s r row p w (row_leaves k u z a) e h g f = cc
+  passes_step s r row p w (refusal c n l x q) e h g f =
+      let same : c ≡ offer row p = cc in
+      let passed = passes (along t ok w) row p h g f in
+      cc
+
   space : {es : List Event} {s : State} → Trace t es s → (row p : ℕ) (a : Answer) (before : List Event) → Happened (event (offer row p) a) before es → InUse (table_of t before) row → p ≤ (row_at (table_of t before) row).payload → too_soon (last_taken row before) (clock_of before) (period_of (row_at (table_of t before) row)) ≡ false → a ≡ taken
-  space (step w (row_taken k q x pays late)) row p a before now h g e = refl
-  space (step w (refusal d n l x r)) row p a before now h g e = sym r ∙ passes (along t ok w) row p h g e
+  space start row p a before x h g e = elim x [ ]
+  space (step {s = s} {r = r} w x) row p a before now h g e = passes_step s r row p w x refl h g e
   space (step w x) row p a before (since y) h g e = space w row p a before y h g e
 
   -- a taken frame is served

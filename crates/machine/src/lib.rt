@@ -19,7 +19,7 @@ pub const BEST_MARK: u32 = 32;
 pub const NO_MARK: u32 = 33;
 
 // A frame: its row, or 32 for best effort; its wire size; the instant it was taken.
-#[derive(Drop)]
+#[derive(Clone, Copy)]
 pub struct Frame {
     pub source: u32,
     pub size: u32,
@@ -27,35 +27,35 @@ pub struct Frame {
 }
 
 // The wire: free, or a frame with its bytes left.
-#[derive(Drop)]
+#[derive(Clone, Copy)]
 pub enum Wire {
     Free,
     Sending(Frame, u32),
 }
 
 // The frames of a class that wait, first in first out: the first `count` places.
-#[derive(Drop)]
+#[derive(Clone, Copy)]
 pub struct Queue {
     pub count: usize,
     pub frames: [Frame; CLASS_PLACES],
 }
 
 // The best-effort frames that wait.
-#[derive(Drop)]
+#[derive(Clone, Copy)]
 pub struct BestQueue {
     pub count: usize,
     pub frames: [Frame; BEST_PLACES],
 }
 
 // The instant of a row's last taken frame, if it has one.
-#[derive(Drop)]
+#[derive(Clone, Copy)]
 pub struct Last {
     pub known: bool,
     pub taken: u64,
 }
 
 // A port. It keeps the bounds of its table's numbers. (They stand apart from the table: side by side the two would be copied in each call of a list.)
-#[derive(Drop)]
+#[derive(Clone, Copy)]
 pub struct Port {
     pub table: table::Table,
     pub clock: u64,
@@ -70,7 +70,7 @@ pub struct Port {
 }
 
 // Why a call is refused. specs/Calls.antt gives each case its number and place.
-#[derive(Drop)]
+#[derive(Clone, Copy)]
 pub enum Denial {
     Broken,
     NoSuchRow,
@@ -88,49 +88,49 @@ pub enum Denial {
 }
 
 // The answer of an offer, a join or a leave.
-#[derive(Drop)]
+#[derive(Clone, Copy)]
 pub enum Offer {
     Taken,
     Refused(Denial),
 }
 
 // The frame that an advance reports ended, or none.
-#[derive(Drop)]
+#[derive(Clone, Copy)]
 pub enum Ended {
     Reported(Frame),
     Nothing,
 }
 
 // The answer of an advance: the count of byte-times passed and the ended frame.
-#[derive(Drop)]
+#[derive(Clone, Copy)]
 pub enum Advance {
     Passed(u64, Ended),
     Refused(Denial),
 }
 
 // What opening gives back: the verdict, and the fresh port.
-#[derive(Drop)]
+#[derive(Clone, Copy)]
 pub struct AfterOpening {
     pub verdict: table::Verdict,
     pub port: Port,
 }
 
 // What an offer, a join or a leave gives back.
-#[derive(Drop)]
+#[derive(Clone, Copy)]
 pub struct AfterOffer {
     pub answer: Offer,
     pub port: Port,
 }
 
 // What an advance gives back.
-#[derive(Drop)]
+#[derive(Clone, Copy)]
 pub struct AfterAdvance {
     pub answer: Advance,
     pub port: Port,
 }
 
 // What a call answers: an offer, a join or a leave is taken, an advance gives the count passed and the ended frame, or the call is refused.
-#[derive(Drop)]
+#[derive(Clone, Copy)]
 pub enum Reply {
     Taken,
     Passed(u64, Ended),
@@ -138,7 +138,7 @@ pub enum Reply {
 }
 
 // The one queue that a call changes, if it does: its head has left it, or a frame has joined it.
-#[derive(Drop)]
+#[derive(Clone, Copy)]
 pub enum Change {
     None,
     LeftA,
@@ -150,7 +150,7 @@ pub enum Change {
 }
 
 // What an offer or an advance comes to: its answer, the clock, the credits and the wire afterwards, and the queue that it changes.
-#[derive(Drop)]
+#[derive(Clone, Copy)]
 pub struct Effect {
     pub reply: Reply,
     pub clock: u64,
@@ -162,7 +162,7 @@ pub struct Effect {
 
 // What a join or a leave comes to: its answer, the table and its bounds afterwards, and the number whose last instant is cleared, 32 for none. At a refusal the table and the bounds are
 // the port's.
-#[derive(Drop)]
+#[derive(Clone, Copy)]
 pub struct Patch {
     pub answer: Offer,
     pub table: table::Table,

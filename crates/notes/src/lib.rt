@@ -2,7 +2,7 @@
 pub mod noting;
 
 // What a record's frames of rows show: one that may not be there, each taken a period or more after those of its row before it, or another order.
-#[derive(Drop)]
+#[derive(Clone, Copy)]
 pub enum Order {
     Broken,
     Rising,

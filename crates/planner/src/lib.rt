@@ -13,7 +13,7 @@ use figures::{Figures, Lane};
 use table::{ROWS, Table, Verdict};
 
 // How many rows are in range before the first that is not, and both classes' figures over the rows up to there.
-#[derive(Drop)]
+#[derive(Clone, Copy)]
 struct Totals {
     passed: usize,
     a: Figures,
@@ -21,7 +21,7 @@ struct Totals {
 }
 
 // How many rows are in time before the first that is not; where all are, how many frames each class may have in the port.
-#[derive(Drop)]
+#[derive(Clone, Copy)]
 struct Judgement {
     timely: usize,
     a: u64,
@@ -29,7 +29,7 @@ struct Judgement {
 }
 
 // A verdict, and of an accepted table its classes; zeros at a refusal.
-#[derive(Drop)]
+#[derive(Clone, Copy)]
 pub struct Classes {
     pub verdict: Verdict,
     pub a: Lane,
@@ -37,7 +37,7 @@ pub struct Classes {
 }
 
 // A verdict with the 32 bounds: 0 in each place behind the last row, and all 0 at a refusal.
-#[derive(Drop)]
+#[derive(Clone, Copy)]
 pub struct Sheet {
     pub verdict: Verdict,
     pub bounds: [u64; ROWS],

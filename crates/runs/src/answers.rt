@@ -10,7 +10,7 @@ use texts::lines::Call;
 use texts::text::Answer;
 
 // What a call gives back.
-#[derive(Drop)]
+#[derive(Clone, Copy)]
 pub struct AfterCall {
     pub answer: Answer,
     pub port: Port,

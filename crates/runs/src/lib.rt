@@ -4,7 +4,7 @@ pub mod input;
 pub mod opened;
 
 // What goes on from one read to the next.
-#[derive(Drop)]
+#[derive(Clone, Copy)]
 pub struct Run {
     pub port: machine::Port,
     pub line: texts::lines::Line,
@@ -12,7 +12,7 @@ pub struct Run {
 }
 
 // The run after some bytes, and how many bytes their text has.
-#[derive(Drop)]
+#[derive(Clone, Copy)]
 pub struct Answered {
     pub run: Run,
     pub count: usize,

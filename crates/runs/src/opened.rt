@@ -12,7 +12,7 @@ use texts::lines::Line;
 use texts::text::{Answer, put_answer};
 
 // Whether more is read, and how many bytes the text of an outcome has.
-#[derive(Drop)]
+#[derive(Clone, Copy)]
 struct Said {
     live: bool,
     count: usize,

@@ -23,7 +23,7 @@ use Rattle.spacing.specs.contracts.Instants as instants
 
 -- what owning a list of instants tells of its places
 pub instant_places : (xs : Instants) (vs : List Val) → Is (Declared.row instants.the_type) xs vs → length xs.taken ≡ most_frames
-instant_places xs vs p = sym (length-map xs.taken _) ∙ p.1.1.1.0.1.0.1
+instant_places xs vs p = p.1.1.1.0.1.0.1
 
 -- ---- how far apart two instants are
 module _ (period x y : ℕ) where

@@ -4,7 +4,7 @@ pub mod rows;
 // Instants, one place for each frame that can be in a record: both class queues, and the wire.
 const MOST_FRAMES: usize = 2 * table::CLASS_PLACES + 1;
 
-#[derive(Drop)]
+#[derive(Clone, Copy)]
 struct Instants {
     count: usize,
     taken: [u64; MOST_FRAMES],

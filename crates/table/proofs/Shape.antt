@@ -16,7 +16,7 @@ use Rattle.table.specs.Rows.{no_row, rows_of}
 
 -- what owning a table record tells of its places
 pub places : (t : Table) (vs : List Val) → Is (Declared.row the_type) t vs → length t.rows ≡ 32
-places t vs p = sym (length-map t.rows _) ∙ p.1.1.1.1.0.1.0.1
+places t vs p = p.1.1.1.1.0.1.0.1
 
 -- there are as many rows as the count says
 pub rows_length : (t : Table) → length (rows_of t) ≡ t.count

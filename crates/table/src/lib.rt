@@ -13,21 +13,21 @@ pub const ROWS: usize = 32;
 pub const CLASS_PLACES: usize = 64;
 
 // A shaped class.
-#[derive(Drop)]
+#[derive(Clone, Copy)]
 pub enum Class {
     A,
     B,
 }
 
 // How often a stream sends: its period in byte-times, or the samples of a frame and their rate in Hz. (In this order a row takes 16 bytes, with the rate first 20.)
-#[derive(Drop)]
+#[derive(Clone, Copy)]
 pub enum Pace {
     Period(u32),
     Rated(u8, u32),
 }
 
 // A stream: its class, whether its frames carry a redundancy tag, payload in bytes, pace, and deadline in byte-times.
-#[derive(Drop)]
+#[derive(Clone, Copy)]
 pub struct Row {
     pub class: Class,
     pub tagged: bool,
@@ -37,7 +37,7 @@ pub struct Row {
 }
 
 // The idle slopes of A and B in millionths of the port rate, and the best-effort payload.
-#[derive(Drop)]
+#[derive(Clone, Copy)]
 pub struct Header {
     pub idlea: u32,
     pub idleb: u32,
@@ -45,7 +45,7 @@ pub struct Header {
 }
 
 // A port's table: its header, its row count, which is one above the highest number in use, and the places. (Of any content, until it is checked.)
-#[derive(Drop)]
+#[derive(Clone, Copy)]
 pub struct Table {
     pub header: Header,
     pub count: usize,
@@ -53,7 +53,7 @@ pub struct Table {
 }
 
 // Why a table is refused. specs/Checks.antt gives each case its number and place.
-#[derive(Drop)]
+#[derive(Clone, Copy)]
 pub enum Refusal {
     RowCount,
     // The row, or 32 for a header value.
@@ -65,7 +65,7 @@ pub enum Refusal {
 }
 
 // The answer to a table: accepted, or refused and why.
-#[derive(Drop)]
+#[derive(Clone, Copy)]
 pub enum Verdict {
     Accepted,
     Refused(Refusal),

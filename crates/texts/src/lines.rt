@@ -4,7 +4,7 @@ ghost use Rattle.texts.specs.Lines.{is_digit, grown, letter_of, space_of, digit_
 ghost use Rattle.texts.specs.Lines.{spaced_of, ended_of, in_number_of, step_of};
 
 // A call that a line states.
-#[derive(Drop)]
+#[derive(Clone, Copy)]
 pub enum Call {
     Offer(u64, u64),
     Best(u64),
@@ -13,7 +13,7 @@ pub enum Call {
 
 // The number that a line goes on to: an offer's row, the payload of an offer to this row, a best-effort payload, an
 // advance's count.
-#[derive(Drop)]
+#[derive(Clone, Copy)]
 pub enum Wanted {
     Row,
     Payload(u64),
@@ -22,7 +22,7 @@ pub enum Wanted {
 }
 
 // A line so far: nothing, its letter, a space, or digits and the number that they state.
-#[derive(Drop)]
+#[derive(Clone, Copy)]
 pub enum Line {
     Empty,
     Letter(Wanted),
@@ -31,7 +31,7 @@ pub enum Line {
 }
 
 // What a byte makes of a line: it goes on, it is a whole call, or it is of another form.
-#[derive(Drop)]
+#[derive(Clone, Copy)]
 pub enum Stepped {
     More(Line),
     Whole(Call),

@@ -3,7 +3,7 @@ ghost use Rattle.std.specs.Prelude.{◌++◌, ◌≡◌, ◌+◌, ◌≤◌, len
 ghost use Rattle.texts.specs.Text.{decimal, pair, line_of, line_size, used_by, put_at, Put};
 
 // An answer as it is printed: `refused`, number and place; or `0`, byte-times passed and the ended frame's row.
-#[derive(Drop)]
+#[derive(Clone, Copy)]
 pub enum Answer {
     Refused(u64, u64),
     Passed(u64, u64),

@@ -90,8 +90,8 @@ module _ {X : Type 0} (f : X → List ℕ) (size : ℕ) where
   module _ (wide : (x : X) → length (f x) ≤ size) where
     pub rest_spread : {n : ℕ} {s t : List ℕ} → Rest n s t → (k : ℕ) (xs : List X) (m : ℕ) → n ≤ m → k + size * length xs ≤ m → Rest m s (spread f size k xs t)
     unfolding spread
-    rest_spread r k [] m h l = rest_later r m h
-    rest_spread r k (x ∷ xs) m h l = rest_spread (rest_stored r k (f x) m h (omega (arith, wide x))) (k + size) xs m (omega arith) (omega arith)
+    rest_spread {n = n} r k [] m h l = rest_later r m h
+    rest_spread {n = n} r k (x ∷ xs) m h l = rest_spread {n = m} (rest_stored r k (f x) m h (omega (arith, wide x))) (k + size) xs m (omega arith) (omega arith)
 
     -- one more thing behind those that stand, or another in the place of one of them
     module _ (s : List ℕ) (b : Bytes s) where
