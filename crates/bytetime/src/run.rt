@@ -5,7 +5,7 @@ ghost use Rattle.machine.specs.Record.{between};
 ghost use Rattle.bytetime.specs.Bytes.{started_hot, freed, run_hot, reach, wide, Near, near_hot, steps_of, ran_with, Stretch};
 
 use crate::credit::{credit_after, ready};
-use crate::senders::{is_a, is_b_lem, is_nobody};
+use crate::senders::{is_a, is_b, is_nobody};
 use crate::start::started;
 use crate::{Fixed, Hot, Ran, Sender};
 use machine::MOST_STEPS;
@@ -63,7 +63,7 @@ fn stretch(h: Hot, x: Fixed, n: u64) -> Ran
     let who = h.sender;
     let free = is_nobody(who);
     let a = is_a(who);
-    let b = is_b_lem(who);
+    let b = is_b(who);
     let waitsa = h.waitsa;
     let waitsb = h.waitsb;
     let idlea = x.idlea as u64;

@@ -15,7 +15,7 @@ pub fn is_a(s: Sender) -> bool
     }
 }
 
-pub fn is_b_lem(s: Sender) -> bool
+pub fn is_b(s: Sender) -> bool
     ensures { result ≡ is_b s }
 {
     match s {

@@ -4,7 +4,7 @@ ghost use Rattle.rowbytes.specs.Row.{row_words};
 ghost use Rattle.callbytes.specs.Calls.{row_start, join_by, named, used_by, zeros_from, read_call, is_readable};
 
 use crate::Asked;
-use rowbytes::fits::row_fits_lem;
+use rowbytes::fits::row_fits;
 use rowbytes::read::row_at;
 use table::{Pace, Row};
 use words::words::word;
@@ -17,10 +17,10 @@ pub const CALL_SIZE: usize = 8 * CALL_WIDTH;
 const ROW_START: usize = 2;
 
 // A row that joins at a number, if its words fit their fields.
-fn join_by_lem(s: &[u8], number: u64) -> Asked
+fn join_by(s: &[u8], number: u64) -> Asked
     ensures { result ≡ join_by s.now number }
 {
-    if !row_fits_lem(s, ROW_START) {
+    if !row_fits(s, ROW_START) {
         return Asked::Unreadable;
     }
     let row = row_at(s, ROW_START);
@@ -43,7 +43,7 @@ fn named(s: &[u8]) -> Asked
         return Asked::Advance(x);
     }
     if kind == 3 {
-        return join_by_lem(s, x);
+        return join_by(s, x);
     }
     if kind == 4 {
         return Asked::Leave(x);

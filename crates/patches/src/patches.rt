@@ -7,7 +7,7 @@ ghost use Rattle.machine.specs.Calls as calls;
 ghost use Rattle.machine.specs.Calls.{Joined, Left};
 ghost use Rattle.machine.specs.Effects.{cleared_at, patched_by, no_patch, Patches};
 
-use crate::tables::{in_use_lem, is_quiet, with_row, without_row};
+use crate::tables::{in_use, is_quiet, with_row, without_row};
 use machine::{AfterOffer, Denial, Last, Offer, Patch, Port};
 use planner::acceptance::classes;
 use record::check::is_sound;
@@ -44,7 +44,7 @@ pub fn judge_join(p: Port, whole: bool, number: u64, row: Row) -> Patch
     if ROWS < t.count {
         return refused(p, Denial::Broken);
     }
-    if in_use_lem(t, k) {
+    if in_use(t, k) {
         return refused(p, Denial::InUse);
     }
     if !row_ok(row) {
@@ -80,7 +80,7 @@ pub fn judge_leave(p: Port, whole: bool, number: u64) -> Patch
         return refused(p, Denial::NoSuchRow);
     }
     let k = number as usize;
-    if !in_use_lem(t, k) {
+    if !in_use(t, k) {
         return refused(p, Denial::NoSuchRow);
     }
     if !is_quiet(p) {

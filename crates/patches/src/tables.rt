@@ -11,7 +11,7 @@ use table::rows::{is_there, no_row};
 use table::{Row, Table};
 
 // Whether a number is in use.
-pub fn in_use_lem(t: Table, k: usize) -> bool
+pub fn in_use(t: Table, k: usize) -> bool
     requires { t.count ≤ most_rows }
     ensures { result ≡ in_use (contents t) k }
 {

@@ -10,6 +10,8 @@ use denote.Laws.{Is}
 use denote.Struct.Declared as struct
 use denote.Enum.Declared as enum
 use denote.Array.{each}
+use denote.Plain.{UInt}
+use mir.Syntax.{w64}
 use Prim.Native.Nat.{ℕ, ◌-◌}
 use Rattle.table.specs.declared.Pace.{Pace}
 use Rattle.table.specs.declared.Pace.TheVariants.{Period, Rated}
@@ -55,10 +57,10 @@ pub wire_owned : (w : Wire) (vs : List Val) → Is (enum.row wire.the_type) w vs
 wire_owned Free vs e = tt
 wire_owned (Sending x left) vs e = (frame_owned x _ e.1.1.1.1.0, e.1.1.1.1.1.0.1)
 
-pub every_owned : {X D : Type 0} (to : X → D) (own : D → List Val → Fml) (P : X → Type 0) → ((x : X) (vs : List Val) → shadow (own (to x) vs) → P x) → (xs : List X) (us : List Val) → shadow (each D own (map to xs) us) → Every P xs
-every_owned to own P f [] us e = tt
-every_owned to own P f (x ∷ xs) [] e = absurd e
-every_owned to own P f (x ∷ xs) (u ∷ us) e = (f x (u ∷ []) e.0, every_owned to own P f xs us e.1)
+pub every_owned : {X : Type 0} (own : X → List Val → Fml) (P : X → Type 0) → ((x : X) (vs : List Val) → shadow (own x vs) → P x) → (xs : List X) (us : List Val) → shadow (each X own xs us) → Every P xs
+every_owned own P f [] us e = tt
+every_owned own P f (x ∷ xs) [] e = absurd e
+every_owned own P f (x ∷ xs) (u ∷ us) e = (f x (u ∷ []) e.0, every_owned own P f xs us e.1)
 
 -- ---- from the places to the parts
 waiting_fits : (n : ℕ) (fs : List Frame) → Every FrameFits fs → Every FrameFits (waiting n fs)
@@ -87,7 +89,7 @@ pub table_owned : (t : Table) (vs : List Val) → Is (struct.row table.the_type)
 unfolding rows_of
 table_owned t vs e =
     let h = e.1.1 in
-    let rows = every_owned _ _ RowFits row_owned t.rows _ h.1.1.0.1.1 in
+    let rows = every_owned (struct.row row.the_type).own_val RowFits row_owned t.rows e.1.1.1.1.0.0 h.1.1.0.1.1 in
     record {
       header = record { idlea = h.0.1.1.0.1; idleb = h.0.1.1.1.0.1; payload = h.0.1.1.1.1.0.1 };
       rows = every_append RowFits (take t.count t.rows) _ (every_take RowFits t.count t.rows rows) (every_same RowFits (t.count - length t.rows) no_row (record { payload = omega arith; pace = omega arith; deadline = omega arith }));
@@ -95,7 +97,7 @@ table_owned t vs e =
 
 -- every port that a program holds
 pub lasts_owned : (p : Port) (vs : List Val) → Is (struct.row port.the_type) p vs → Every LastFits p.last
-lasts_owned p vs e = every_owned _ _ LastFits last_owned p.last _ e.1.1.1.1.1.1.1.1.1.0.1.1
+lasts_owned p vs e = every_owned (struct.row last.the_type).own_val LastFits last_owned p.last e.1.1.1.1.1.1.1.1.1.0.0 e.1.1.1.1.1.1.1.1.1.0.1.1
 
 pub owned_numbered : (p : Port) (vs : List Val) → Is (struct.row port.the_type) p vs → Numbered (view p)
 unfolding view
@@ -106,13 +108,13 @@ owned_numbered p vs e =
     record {
       header = t.header;
       rows = t.rows;
-      bounds = kept_fits p.table.count p.bounds (every_owned _ _ Word (λ w vs e. e.1) p.bounds _ q.1.1.1.1.0.1.1);
+      bounds = kept_fits p.table.count p.bounds (every_owned (UInt w64).own_val Word (λ w vs e. e.1) p.bounds _ q.1.1.1.1.0.1.1);
       clock = r.0.1;
       credita = r.1.0.1;
       creditb = r.1.1.0.1;
-      a = waiting_fits p.a.count p.a.frames (every_owned _ _ FrameFits frame_owned p.a.frames _ q.0.1.1.1.0.1.1);
-      b = waiting_fits p.b.count p.b.frames (every_owned _ _ FrameFits frame_owned p.b.frames _ q.1.0.1.1.1.0.1.1);
-      best = waiting_fits p.best.count p.best.frames (every_owned _ _ FrameFits frame_owned p.best.frames _ q.1.1.0.1.1.1.0.1.1);
+      a = waiting_fits p.a.count p.a.frames (every_owned (struct.row frame.the_type).own_val FrameFits frame_owned p.a.frames _ q.0.1.1.1.0.1.1);
+      b = waiting_fits p.b.count p.b.frames (every_owned (struct.row frame.the_type).own_val FrameFits frame_owned p.b.frames _ q.1.0.1.1.1.0.1.1);
+      best = waiting_fits p.best.count p.best.frames (every_owned (struct.row frame.the_type).own_val FrameFits frame_owned p.best.frames _ q.1.1.0.1.1.1.0.1.1);
       last = instants_fit (rows_of p.table) p.last (lasts_owned p vs e);
       wire = wire_owned p.wire _ q.1.1.1.1.1.0;
     }

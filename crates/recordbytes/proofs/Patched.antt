@@ -7,6 +7,8 @@ use native.Mathlib.Omega.{arith}
 use lib.Dec.{ltb}
 use lib.ListN.{length, set}
 use mir.Val.{Val}
+use denote.Plain.{UInt}
+use mir.Syntax.{w64}
 use denote.Laws.{Is}
 use denote.Struct.Declared as struct
 use Rattle.table.specs.Limits.{most_rows, class_places}
@@ -92,7 +94,7 @@ owned_patched q vs o x us e =
     record {
       header = t.header;
       rows = t.rows;
-      bounds = kept_fits x.table.count x.bounds (every_owned _ _ Word (λ w vs e. e.1) x.bounds _ e.1.1.1.1.0.1.1);
+      bounds = kept_fits x.table.count x.bounds (every_owned (UInt w64).own_val Word (λ w vs e. e.1) x.bounds _ e.1.1.1.1.0.1.1);
       clock = n.clock;
       credita = n.credita;
       creditb = n.creditb;

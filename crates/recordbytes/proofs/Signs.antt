@@ -14,7 +14,7 @@ use Rattle.recordbytes.specs.Record.{signed_of, signed_word}
 
 -- a number of 64 bits is itself
 pub plain : {z : ℤ} → mag z < 2 ^ 63 → to_z w64 (of_z w64 z) ≡ z
-plain h = to_z-of_z (record { sfits = h })
+plain {z = z} h = to_z-of_z {w = w64} {z = z} (record { sfits = h })
 
 pub word_plain : (z : ℤ) {w : ℕ} → mag z < 2 ^ 63 → w ≡ signed_word (to_z w64 (of_z w64 z)) → w ≡ signed_word z
 word_plain z h e = e ∙ ap signed_word (plain {z = z} h)

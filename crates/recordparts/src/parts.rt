@@ -10,7 +10,7 @@ use recordbytes::{CLOCK_START, FRAME_WIDTH, WIRE_START};
 use rowbytes::write::{put_three, put_word};
 
 // Two's complement.
-fn signed_word_lem(z: i64) -> u64
+fn signed_word(z: i64) -> u64
     ensures { result ≡ signed_word z }
 {
     if 0 <= z {
@@ -24,7 +24,7 @@ pub fn put_numbers(out: &mut [u8], clock: u64, a: i64, b: i64)
     requires { record_size ≤ length out.old }
     ensures { out.new ≡ stored out.old clock_start (clock ∷ signed_word a ∷ signed_word b ∷ []) }
 {
-    put_three(out, CLOCK_START, clock, signed_word_lem(a), signed_word_lem(b));
+    put_three(out, CLOCK_START, clock, signed_word(a), signed_word(b));
 }
 
 pub fn put_frame(out: &mut [u8], k: usize, frame: Frame)

@@ -12,7 +12,7 @@ use recordbytes::{
     WIRE_START,
 };
 use rowbytes::ROW_WIDTH;
-use rowbytes::fits::{U16, U32, row_fits_lem};
+use rowbytes::fits::{U16, U32, row_fits};
 use rowbytes::read::row_at;
 use table::rows::is_there;
 use table::{CLASS_PLACES, ROWS};
@@ -33,7 +33,7 @@ fn frame_fits(s: &[u8], k: usize) -> bool
     (word(s, k) <= U32) & (word(s, k + 1) <= U32)
 }
 
-fn last_fits_lem(s: &[u8], k: usize) -> bool
+fn last_fits(s: &[u8], k: usize) -> bool
     ensures { result ≡ last_fits s.now k }
 {
     word(s, k) <= 1
@@ -44,7 +44,7 @@ fn mark_fits(s: &[u8], i: usize) -> bool
     requires { i < most_rows }
     ensures { result ≡ mark_fits s.now i }
 {
-    if last_fits_lem(s, LAST_START + LAST_WIDTH * i) {
+    if last_fits(s, LAST_START + LAST_WIDTH * i) {
         return true;
     }
     let row = row_at(s, ROWS_START + ROW_WIDTH * i);
@@ -67,7 +67,7 @@ fn rows_fit(s: &[u8], n: usize) -> bool
 {
     let mut i: usize = 0;
     while i < n {
-        if !row_fits_lem(s, ROWS_START + ROW_WIDTH * i) {
+        if !row_fits(s, ROWS_START + ROW_WIDTH * i) {
             return false;
         }
         i += 1;

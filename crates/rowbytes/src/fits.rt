@@ -24,7 +24,7 @@ fn pace_fits(s: &[u8], k: usize) -> bool
     (mark == 0) & value
 }
 
-pub fn row_fits_lem(s: &[u8], k: usize) -> bool
+pub fn row_fits(s: &[u8], k: usize) -> bool
     requires { k + row_width < 2 ^ 64 }
     ensures { result ≡ row_fits s.now k }
 {

@@ -32,7 +32,7 @@ fn class_word(class: Class) -> u64
     }
 }
 
-fn tag_word_lem(tagged: bool) -> u64
+fn tag_word(tagged: bool) -> u64
     ensures { result ≡ tag_word tagged }
 {
     if tagged {
@@ -66,7 +66,7 @@ pub fn put_row(out: &mut [u8], k: usize, row: Row)
     put_three(
         out,
         k + 1,
-        tag_word_lem(row.tagged),
+        tag_word(row.tagged),
         row.payload as u64,
         row.deadline as u64,
     );

@@ -54,7 +54,7 @@ fn answers(run: Run, s: &[u8], out: &mut [u8]) -> Answered
 }
 
 // Whether a run reads so many bytes: it goes on, and there is room for their answers.
-fn is_read_lem(live: bool, bytes: usize, room: usize) -> bool
+fn is_read(live: bool, bytes: usize, room: usize) -> bool
     ensures { result ≡ leb (line_size * bytes) room && live }
 {
     if room / LINE_SIZE < bytes {
@@ -68,7 +68,7 @@ fn is_read_lem(live: bool, bytes: usize, room: usize) -> bool
 pub fn answer_all(run: Run, s: &[u8], out: &mut [u8]) -> Answered
     ensures { AnswersTo run s.now out.old out.new result }
 {
-    if !is_read_lem(run.live, s.len(), out.len()) {
+    if !is_read(run.live, s.len(), out.len()) {
         return Answered { run, count: 0 };
     }
     answers(run, s, out)
