@@ -1,4 +1,6 @@
 // Calls and answers as bytes.
+#![tactic(auto)]
+
 pub mod answers;
 pub mod calls;
 

@@ -1,4 +1,6 @@
 // An outcome as one number, for callers from other languages.
+#![tactic(auto)]
+
 ghost use Rattle.std.specs.Prelude.{min, [], ◌∷◌, ◌≡◌};
 ghost use Rattle.table.specs.Checks as tables;
 ghost use Rattle.tablefile.specs.Reading as files;

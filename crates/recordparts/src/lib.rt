@@ -1,2 +1,4 @@
 // The words of a port's parts.
+#![tactic(auto)]
+
 pub mod parts;

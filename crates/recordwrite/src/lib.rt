@@ -1,2 +1,4 @@
 // Port records written as bytes.
+#![tactic(auto)]
+
 pub mod write;

@@ -1,4 +1,6 @@
 // A row as words: written, tested and read. specs/Row.antt has the same widths.
+#![tactic(auto)]
+
 pub mod fits;
 pub mod read;
 pub mod write;

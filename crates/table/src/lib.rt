@@ -1,4 +1,6 @@
 // A port's table: its types, the wire sizes, periods and shares of its rows, and which values are in range.
+#![tactic(auto)]
+
 pub mod classes;
 pub mod numbers;
 pub mod quotient;

@@ -1,2 +1,4 @@
 // Writing a table file: bytes from a table.
+#![tactic(auto)]
+
 pub mod write;

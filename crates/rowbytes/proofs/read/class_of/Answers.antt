@@ -1,0 +1,10 @@
+-- `rowbytes::read::class_of` meets its contract: 0 is A, and every other word is B.
+use mathlib.Core.Path.{refl}
+use borrow.Author.Tests.{eq-eqb, ne_eqb}
+use Rattle.rowbytes.proofs.read.class_of.Goals as goal
+
+pub returns-then-w-eq0 : goal.returns-then-w-eq0
+returns-then-w-eq0 c = rw (eq-eqb _ _ c.if-w-eq0.true)
+
+pub returns : goal.returns
+returns c = rw (ne_eqb _ _ c.if-w-eq0.false) refl
