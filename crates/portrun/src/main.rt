@@ -1,13 +1,18 @@
 // Opens the port of the table file `table.avb`, reads a call a line on standard input, and prints a line for each. At a
 // line of any other form it stops. A refused file gets one line with the refusal's number and place.
-ghost use Rattle.std.specs.Prelude.{◌≤◌, [], ◌∷◌, ◌≡◌, length};
+#![tactic(auto)]
+
+ghost use Rattle.std.specs.Prelude.{◌≤◌, [], ◌∷◌, ◌≡◌, length, IfOk};
 ghost use Rattle.runs.specs.Runs.{going_on, standing};
 ghost use Rattle.runs.specs.Led.{stopped, Led, LedOn, Plays};
 
-use libc::{STDIN_FILENO, STDOUT_FILENO};
+use inputs::filled;
 use runs::Run;
 use runs::input::answer_all;
 use runs::opened::begin;
+use std::fs::File;
+use std::io;
+use std::io::{Read, Write};
 
 fn stopped(run: Run) -> Run
     ensures { result ≡ stopped run }
@@ -18,54 +23,52 @@ fn stopped(run: Run) -> Run
 }
 
 // Writes a text. Where it cannot be written, the run stops.
-fn written(run: Run, text: &[u8]) -> Run
+fn written(rt: &HostRuntime, run: Run, text: &[u8]) -> Run
     ensures { Led run.port.table (standing run) result }
 {
-    if io::write_all(STDOUT_FILENO, text) {
-        return run;
+    match rt.stdout().write_all(text) {
+        Ok(()) => run,
+        Err(_) => stopped(run),
     }
-    stopped(run)
 }
 
 // Makes the calls of some bytes, and writes their answers.
-fn fed(run: Run, s: &[u8]) -> Run
+fn fed(rt: &HostRuntime, run: Run, s: &[u8]) -> Run
     requires { length s.now ≤ 1024 }
     ensures { Led run.port.table (going_on (standing run) s.now) result }
 {
-    let mut out = io::large_buffer();
+    let mut out = [0u8; 65536];
     let a = answer_all(run, s, &mut out);
     let n = a.count;
     let next = a.run;
-    written(next, &out[..n])
+    written(rt, next, &out[..n])
 }
 
 // The last line may lack its newline: the input's end ends it.
-fn last(run: Run) -> Run
+fn last(rt: &HostRuntime, run: Run) -> Run
     ensures { Led run.port.table (going_on (standing run) (10 ∷ [])) result }
 {
-    stopped(fed(run, b"\n"))
+    stopped(fed(rt, run, b"\n"))
 }
 
 // Reads once, after all answers so far are written.
-fn turn(run: Run) -> Run
+fn turn(rt: &HostRuntime, run: Run) -> Run
     ensures { LedOn run.port.table (standing run) result }
 {
     let mut input = [0u8; 1024];
-    let got = libc::read(STDIN_FILENO, &mut input);
-    if got < 0 {
-        os::fail(b"portrun: standard input");
-        return stopped(run);
+    match rt.stdin().read(&mut input) {
+        Ok(0) => last(rt, run),
+        Ok(n) => fed(rt, run, &input[..n]),
+        Err(error) => {
+            let _ = eprintln!(rt; "portrun: standard input: {error}");
+            stopped(run)
+        }
     }
-    if got == 0 {
-        return last(run);
-    }
-    let n = io::count(got, &input);
-    fed(run, &input[..n])
 }
 
 // A proved loop has to end, and nothing says that the input does: the turns are counted down from a number that no run
 // uses up.
-fn calls(first: Run) -> Run
+fn calls(rt: &HostRuntime, first: Run) -> Run
     ensures { LedOn first.port.table (standing first) result }
 {
     let mut run = first;
@@ -74,40 +77,38 @@ fn calls(first: Run) -> Run
         if !run.live {
             return run;
         }
-        run = turn(run);
+        run = turn(rt, run);
         turns -= 1;
     }
     run
 }
 
 // The run of a table file.
-fn played(file: &[u8]) -> Run
+fn played(rt: &HostRuntime, file: &[u8]) -> Run
     ensures { Plays file.now result }
 {
-    let mut out = io::buffer();
+    let mut out = [0u8; 4096];
     let a = begin(file, &mut out);
     let n = a.count;
     let first = a.run;
-    calls(written(first, &out[..n]))
+    calls(rt, written(rt, first, &out[..n]))
 }
 
-// A table file has at most 399 bytes, so a longer one is refused by what these bytes hold. Where fewer come, one more
-// read tells the file's end from a read that fails.
-fn main() {
-    let fd = os::open_read(b"table.avb");
-    if fd < 0 {
-        os::fail(b"portrun: table.avb");
-        return;
-    }
+// A table file has at most 399 bytes, so a longer one is refused by what these bytes hold.
+fn table(rt: &HostRuntime, into: &mut [u8]) -> io::Result<usize>
+    ensures { IfOk result (λ n. n ≤ length into.new) }
+{
+    let mut file = File::open(rt, "table.avb")?;
+    filled(&mut file, into)
+}
+
+fn main(rt: HostRuntime) -> io::Result<()> {
     let mut input = [0u8; 512];
-    let n = io::read_full(fd, &mut input);
-    let mut more = [0u8; 1];
-    if n < 512 {
-        if libc::read(fd, &mut more) != 0 {
-            os::fail(b"portrun: table.avb");
-            return;
+    match table(&rt, &mut input) {
+        Ok(n) => {
+            played(&rt, &input[..n]);
+            Ok(())
         }
+        Err(error) => eprintln!(rt; "portrun: table.avb: {error}"),
     }
-    libc::close(fd);
-    played(&input[..n]);
 }

@@ -1,12 +1,16 @@
 // Reads a table file on standard input and prints its sheet, or one line if it is refused.
-use libc::{STDIN_FILENO, STDOUT_FILENO};
+#![tactic(auto)]
+
+use inputs::filled;
 use sheets::sheet::put_sheet;
+use std::io;
+use std::io::Write;
 
 // A table file has at most 399 bytes, so a longer input is refused by what these bytes hold.
-fn main() {
+fn main(rt: HostRuntime) -> io::Result<()> {
     let mut input = [0u8; 512];
-    let read = io::read_full(STDIN_FILENO, &mut input);
-    let mut out = io::buffer();
+    let read = filled(&mut rt.stdin(), &mut input)?;
+    let mut out = [0u8; 4096];
     let used = put_sheet(&mut out, &input[..read]);
-    io::write_all(STDOUT_FILENO, &out[..used]);
+    rt.stdout().write_all(&out[..used])
 }
