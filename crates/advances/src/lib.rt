@@ -1,4 +1,6 @@
 // The advance of a port.
+#![tactic(auto)]
+
 pub mod advances;
 mod heads;
 mod numbers;

@@ -1,4 +1,6 @@
 // Byte-times, one after the other, on the few numbers that they change.
+#![tactic(auto)]
+
 mod credit;
 pub mod run;
 pub mod senders;

@@ -1,4 +1,6 @@
 // What rows add to the figures of their class, what the figures make of a class, and what a class makes of a row.
+#![tactic(auto)]
+
 pub mod lanes;
 pub mod residences;
 pub mod sums;

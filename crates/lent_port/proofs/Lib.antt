@@ -1,3 +1,2 @@
--- Laws that belong to no one function. `Step` has that an advance of a lent record is a step of a run, `Values` what the walks share.
+-- Laws that belong to no one function. `Step` has that an advance of a lent record is a step of a run.
 pub mod Step
-mod Values

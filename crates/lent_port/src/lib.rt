@@ -1,2 +1,4 @@
 // A call that takes a port record where it lies.
-pub mod record;
+#![tactic(auto)]
+
+pub mod carried;

@@ -1,4 +1,6 @@
 // Blocking, residences, bounds and acceptance of a table.
+#![tactic(auto)]
+
 ghost use Rattle.std.specs.Prelude.{◌≡◌};
 ghost use Rattle.table.specs.Rows.{contents};
 ghost use Rattle.table.specs.Checks.{outcome_of};

@@ -68,6 +68,6 @@ pub fn make(p: Port, c: Call) -> AfterCall
     match c {
         Call::Offer(row, payload) => after_offer(offers::offers::offer(p, row, payload)),
         Call::Best(payload) => after_offer(offers::offers::offer_best(p, payload)),
-        Call::Advance(n) => after_advance(lent_port::record::advance_local(p, n)),
+        Call::Advance(n) => after_advance(lent_port::carried::advance_local(p, n)),
     }
 }

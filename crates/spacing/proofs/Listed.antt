@@ -6,7 +6,7 @@ use mathlib.Core.Path.{◌≡◌, refl, sym, ◌∙◌}
 use native.Mathlib.Numerals.{add-one}
 use native.Mathlib.Omega.{arith}
 use lib.Dec.{leb}
-use lib.ListN.{length, get_or, take, drop, set, length-map, length-set, length-take, drop_of_length-le}
+use lib.ListN.{length, get_or, take, drop, set, length-set, length-take, drop_of_length-le}
 use lib.Seq.{take-suc, take-suc-set}
 use mir.Val.{Val}
 use denote.Laws.{Is}

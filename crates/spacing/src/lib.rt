@@ -1,4 +1,6 @@
 // How far apart the frames of each row in a record were taken, in whichever order they stand.
+#![tactic(auto)]
+
 pub mod rows;
 
 // Instants, one place for each frame that can be in a record: both class queues, and the wire.
