@@ -1,2 +1,4 @@
 // The tests of a record's frames.
+#![tactic(auto)]
+
 pub mod tests;

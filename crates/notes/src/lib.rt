@@ -1,4 +1,6 @@
 // The frames of the rows in a record, each held to its row and noted there.
+#![tactic(auto)]
+
 pub mod noting;
 
 // What a record's frames of rows show: one that may not be there, each taken a period or more after those of its row before it, or another order.

@@ -1,2 +1,4 @@
 // A call carried out on a record's bytes.
+#![tactic(auto)]
+
 pub mod change;

@@ -1,3 +1,5 @@
 // A port record from bytes.
+#![tactic(auto)]
+
 mod fits;
 pub mod read;

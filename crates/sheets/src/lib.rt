@@ -1,2 +1,4 @@
 // The sheet of a table file, as text.
+#![tactic(auto)]
+
 pub mod sheet;

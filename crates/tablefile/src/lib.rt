@@ -1,4 +1,6 @@
 // Table files: what the letters and bytes of a file are, what is wrong with one, and the answers of reading and writing.
+#![tactic(auto)]
+
 pub mod layout;
 pub mod numbers;
 

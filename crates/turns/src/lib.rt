@@ -1,4 +1,6 @@
 // The port of a table file, and what a call that is asked for in bytes comes to.
+#![tactic(auto)]
+
 pub mod opened;
 pub mod turn;
 

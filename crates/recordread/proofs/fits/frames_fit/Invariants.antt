@@ -1,0 +1,13 @@
+-- `recordread::fits::frames_fit` meets its contract: after i turns the first i fit.
+use Prim.Native.Nat.{◌-◌, ◌≤◌}
+use mathlib.Core.Bool.{true}
+use mathlib.Core.Path.{◌≡◌}
+use Rattle.recordbytes.specs.Layout.{frame_width}
+use Rattle.recordbytes.specs.Record.{frame_fits, each}
+use Rattle.recordread.proofs.fits.frames_fit.Given as goal
+
+abbrev pub invariant-loop-i : goal.invariant-loop-i
+invariant-loop-i l = (l.i ≤ l.n) × (each (frame_fits l.s) frame_width l.k l.i ≡ true)
+
+abbrev pub decreases-loop-i : goal.decreases-loop-i
+decreases-loop-i l = l.n - l.i
