@@ -1,16 +1,16 @@
-//! Links the static library that `rt staticlib ithumeco` writes.
+//! Links the static library that `rt lib` writes in crates/ithumeco.
 
 use std::env;
 use std::path::Path;
 
 fn main() {
     let crate_folder = env::var("CARGO_MANIFEST_DIR").expect("cargo names the crate's folder");
-    let folder = Path::new(&crate_folder).join("../../target/staticlib");
+    let folder = Path::new(&crate_folder).join("../../crates/ithumeco/out");
     let archive = folder.join("libithumeco.a");
     println!("cargo::rerun-if-changed={}", archive.display());
     if !archive.exists() {
         println!(
-            "cargo::error=target/staticlib/libithumeco.a is missing: run `rt staticlib ithumeco`"
+            "cargo::error=crates/ithumeco/out/libithumeco.a is missing: run `rt lib` in crates/ithumeco"
         );
         return;
     }

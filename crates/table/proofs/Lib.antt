@@ -5,4 +5,3 @@ mod Search
 mod Ranged
 mod Patched
 pub mod Laws
-pub mod Answers

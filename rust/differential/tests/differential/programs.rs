@@ -78,11 +78,11 @@ pub fn run(bench: &mut Bench) {
 
 /// A program that the Rattle kit has built.
 fn program(name: &str) -> PathBuf {
-    let path = Path::new(env!("CARGO_MANIFEST_DIR")).join("../../target/bin");
-    let path = path.join(name);
+    let crates = Path::new(env!("CARGO_MANIFEST_DIR")).join("../../crates");
+    let path = crates.join(name).join("out").join(name);
     assert!(
         path.exists(),
-        "target/bin/{name} is missing: run `rt check portsheet portrun`"
+        "crates/{name}/out/{name} is missing: run `rt run` in crates/{name}"
     );
     path
 }
