@@ -1,2 +1,4 @@
 // A list of calls, as bytes, on the port of a table file.
+#![tactic(auto)]
+
 pub mod list;

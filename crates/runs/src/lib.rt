@@ -1,4 +1,6 @@
 // What portrun makes of its table file and of its input.
+#![tactic(auto)]
+
 mod answers;
 pub mod input;
 pub mod opened;

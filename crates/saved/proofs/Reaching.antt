@@ -24,7 +24,7 @@ use Rattle.machine.specs.declared.Change.{Change}
 use Rattle.machine.specs.declared.Change.TheVariants.{None, LeftA, LeftB, LeftBest, JoinedA, JoinedB, JoinedBest}
 use Rattle.machine.specs.declared.Effect.{Effect}
 use Rattle.machine.specs.Limits.{no_mark}
-use Rattle.machine.specs.State.{State, fresh, view, port_of, Placed}
+use Rattle.machine.specs.State.{State, view, port_of, Placed}
 use Rattle.machine.specs.Calls as machines
 use Rattle.machine.specs.Calls.{Call, Answer, taken, passed, denied, offer_answer, Keeps, patches, KeepsTable, Gives}
 use Rattle.machine.specs.Effects.{reply_answer, changed_by, carried_out, Room, Stays, StaysBy, Comes, cleared_at, patched_by, Patches}

@@ -1,2 +1,4 @@
 // A port kept as bytes between calls.
+#![tactic(auto)]
+
 pub mod saved;
