@@ -1,3 +1,5 @@
 // Opening a port, and offers to it.
+#![tactic(auto)]
+
 pub mod offers;
 pub mod opening;

@@ -1,3 +1,5 @@
 // Rows that join and leave a port.
+#![tactic(auto)]
+
 pub mod patches;
 mod tables;

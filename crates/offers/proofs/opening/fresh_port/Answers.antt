@@ -18,8 +18,7 @@ use Rattle.machine.specs.State.{kept_of, bounds_if, fresh, view}
 use Rattle.machine.proofs.Places.{zero_frame, zero_last}
 use Rattle.machine.proofs.Placing.{kept_bounds}
 use Rattle.offers.proofs.Waits.{no_instants, no_bounds}
-use Rattle.offers.proofs.opening.fresh_port.Statement.{statement}
-use Rattle.offers.proofs.opening.fresh_port.Tie as tie
+use Rattle.offers.proofs.opening.fresh_port.Goals as goal
 
 kept : (t : Contents) (o : Outcome) → opening t ≡ o → kept_of (length t.rows) (bounds_at o t) ≡ bounds_if o t
 kept t accepted e = kept_bounds t (law.accepted_if t e).ranges.most
@@ -31,8 +30,5 @@ is-fresh t bs e =
     let k : kept_of t.count bs ≡ bounds_if (opening (contents t)) (contents t) = ap (λ (n : ℕ). kept_of n bs) (sym (table.rows_length t)) ∙ ap (λ (l : List ℕ). kept_of (length (rows_of t)) l) e ∙ kept (contents t) (opening (contents t)) refl in
     rw (k, no_instants (rows_of t) most_rows) refl
 
-returns : tie.Need-returns
-returns c = (is-fresh c.args.table c.args.bounds c.pre, refl)
-
-pub fresh-port-spec : {M : Type 1} → statement M
-fresh-port-spec = tie.close (tie.spec returns)
+pub returns : goal.returns
+returns c = record { result_value = is-fresh c.args.table c.args.bounds c.requires; table_value = refl }

@@ -11,8 +11,7 @@ use mir.Val.{SFits, to_z, of_z}
 use mir.Facts.{to_z-of_z}
 use borrow.Author.Tests.{ltb-true, le-leb, lt-leb, eq-eqb, ne_eqb}
 use Rattle.machine.specs.Calls.{is_zero}
-use Rattle.patches.proofs.tables.no_credit.Statement.{statement}
-use Rattle.patches.proofs.tables.no_credit.Tie as tie
+use Rattle.patches.proofs.tables.no_credit.Goals as goal
 
 below : (z : ℤ) → lt_z z (pos 0) ≡ true → false ≡ is_zero z
 below (pos n) e = absurd (omega (arith, ltb-true n 0 e))
@@ -33,11 +32,8 @@ module _ (z : ℤ) (f : SFits w64 z) where
   is-above : lt_z (to_z w64 (of_z w64 z)) (pos 0) ≡ false → le_z (to_z w64 (of_z w64 z)) (pos 0) ≡ is_zero z
   is-above e = rw (to_z-of_z f) (above z (rw (to_z-of_z f) at e))
 
-returns : tie.Need-returns
-returns c = is_below c.before.args.credit c.before.ranges.credit c.if1.true
+pub returns-then-credit-lt0 : goal.returns-then-credit-lt0
+returns-then-credit-lt0 c = is_below c.args.credit c.ranges.credit c.if-credit-lt0.true
 
-returns-2 : tie.Need-returns-2
-returns-2 c = is-above c.before.args.credit c.before.ranges.credit c.if1.false
-
-pub no-credit-spec : {M : Type 1} → statement M
-no-credit-spec = tie.close (tie.spec returns returns-2)
+pub returns : goal.returns
+returns c = is-above c.args.credit c.ranges.credit c.if-credit-lt0.false
