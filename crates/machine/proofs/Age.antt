@@ -7,7 +7,6 @@ use mathlib.Core.Path.{◌≡◌, refl}
 use native.Mathlib.Omega.{arith}
 use lib.ListN.{length, get_or}
 use Rattle.table.specs.declared.Class.{Class}
-use Rattle.table.specs.declared.Class.TheVariants.{A}
 use Rattle.table.specs.Limits.{D, left_at_report}
 use Rattle.table.specs.Wire.{size_of, period_of}
 use Rattle.table.specs.Rows.{Contents, row_at, same_class, InUse}

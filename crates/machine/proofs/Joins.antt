@@ -18,8 +18,8 @@ use Rattle.table.specs.Limits.{D, most_rows}
 use Rattle.table.specs.Wire.{size_of, period_of}
 use Rattle.table.specs.Rows.{no_row, is_there, Contents, row_at, same_class, in_use, InUse, rows_with, with_row, without_row}
 use Rattle.table.proofs.Laws as table
-use Rattle.planner.specs.Sums.{part, largest, total, idle, send, best_size}
-use Rattle.planner.specs.Bound.{blocking, residence, bounds_of}
+use Rattle.planner.specs.Sums.{part, largest, idle, send, best_size}
+use Rattle.planner.specs.Bound.{blocking, bounds_of}
 use Rattle.planner.specs.Opening.{IsAccepted}
 use Rattle.planner.specs.Growth.{NoLess}
 use Rattle.planner.proofs.Laws as law

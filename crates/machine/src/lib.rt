@@ -1,4 +1,6 @@
 // The types of a port: its record, its frames and wire, and the answers of its calls.
+#![tactic(auto)]
+
 pub mod numbers;
 
 use table::{CLASS_PLACES, ROWS};

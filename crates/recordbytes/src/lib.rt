@@ -1,4 +1,5 @@
 // A port record as bytes: where its words stand, and what bytes are read as. specs/Layout.antt has the same numbers.
+#![tactic(auto)]
 
 // The version of the layout and of what its words say.
 pub const VERSION: u64 = 1_000_006;

@@ -1,9 +1,9 @@
 -- A table record's rows as a loop meets them: 32 places, and one row after the other.
 use Prim.Native.Nat.{ℕ, suc, ◌-◌, ◌≤◌, ◌<◌}
-use mathlib.Core.Path.{◌≡◌, ◌∙◌, sym, ap}
+use mathlib.Core.Path.{◌≡◌, ◌∙◌, ap}
 use mathlib.Core.List.{List, [], ◌∷◌, append-nil}
 use native.Mathlib.Omega.{arith}
-use lib.ListN.{length, get_or, drop, take, replicate, length-map, length-take, length-append, length-replicate, drop_of_length-le, get_or-append}
+use lib.ListN.{length, get_or, drop, take, replicate, length-take, length-append, length-replicate, drop_of_length-le, get_or-append}
 use lib.Seq.{drop-cons, get_or-take}
 use mir.Val.{Val}
 use denote.Laws.{Is}

@@ -1,5 +1,4 @@
 -- `callbytes::calls::zeros_from` meets its contract: what is left to look at says what the whole does.
-use Prim.Native.Nat.{◌-◌}
 use mathlib.Core.Path.{refl, sym, ◌∙◌}
 use native.Mathlib.Omega.{arith}
 use Rattle.callbytes.proofs.Named.{zeros_end, zeros_next, zeros_fail}

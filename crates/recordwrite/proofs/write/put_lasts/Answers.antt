@@ -1,5 +1,5 @@
 -- `recordwrite::write::put_lasts` meets its contract: after i turns the instants of the first i numbers are stored, if they are in use.
-use Prim.Native.Nat.{◌+◌, ◌-◌, ◌*◌, min}
+use Prim.Native.Nat.{◌+◌, ◌*◌, min}
 use mathlib.Core.Path.{◌≡◌, refl, ◌∙◌, ap}
 use native.Mathlib.Omega.{arith}
 use lib.ListN.{length}

@@ -1,5 +1,5 @@
 -- `recordwrite::write::put_rows` meets its contract: after i turns the first i rows are stored.
-use Prim.Native.Nat.{◌+◌, ◌-◌, ◌*◌, min}
+use Prim.Native.Nat.{◌+◌, ◌*◌, min}
 use mathlib.Core.Path.{◌≡◌, refl, ◌∙◌, ap}
 use native.Mathlib.Omega.{arith}
 use lib.ListN.{length}

@@ -1,5 +1,4 @@
 -- `table::ranges::in_range` meets its contract: the search goes from row to row.
-use Prim.Native.Nat.{◌-◌}
 use mathlib.Core.Path.{refl, sym, ◌∙◌}
 use native.Mathlib.Omega.{arith}
 use Rattle.table.specs.Ranges.{row_ok}

@@ -1,5 +1,4 @@
 -- `tableread::read::read_rows` meets its contract: after i turns the first i rows have passed and stand in the table, and the next one starts at the place.
-use Prim.Native.Nat.{◌-◌}
 use mathlib.Core.Path.{sym, ◌∙◌, ap}
 use native.Mathlib.Omega.{arith}
 use Rattle.table.specs.declared.Table.{Table}

@@ -1,5 +1,4 @@
 -- `tablewrite::write::file_size` meets its contract: the size so far, with what the rows left take, is the whole.
-use Prim.Native.Nat.{◌-◌}
 use mathlib.Core.Path.{refl}
 use native.Mathlib.Omega.{arith}
 use Rattle.table.proofs.Laws.{places}

@@ -1,5 +1,5 @@
 -- `tablewrite::write::put_letters` meets its contract: what is written so far, with the letters left stored behind it, is the whole.
-use Prim.Native.Nat.{ℕ, ◌+◌, ◌-◌, ◌≤◌, ◌<◌}
+use Prim.Native.Nat.{ℕ, ◌+◌, ◌≤◌, ◌<◌}
 use mathlib.Core.List.{List}
 use mathlib.Core.Path.{◌≡◌, refl, sym, ◌∙◌, ap}
 use native.Mathlib.Numerals.{add-one}
@@ -18,12 +18,11 @@ pub loop-i-init : goal.loop-i-init
 loop-i-init c = (refl, ap length c.letters-own.ensures, refl)
 
 pub loop-i-preserved : goal.loop-i-preserved
-loop-i-preserved c =
-    (
-      ap length c.put.ensures ∙ length-set c.loop-i.out c.loop-i.i _ ∙ c.loop-i.invariant.0,
-      c.loop-i.invariant.1,
-      next-letter _ c.loop-i.invariant.1 c.loop-i.out c.loop-i.i c.loop-i-test.true c.put.ensures ∙ c.loop-i.invariant.2,
-    )
+loop-i-preserved c = (
+  ap length c.put.ensures ∙ length-set c.loop-i.out c.loop-i.i _ ∙ c.loop-i.invariant.0,
+  c.loop-i.invariant.1,
+  next-letter _ c.loop-i.invariant.1 c.loop-i.out c.loop-i.i c.loop-i-test.true c.put.ensures ∙ c.loop-i.invariant.2,
+)
 
 pub returns : goal.returns
 returns c =

@@ -1,5 +1,4 @@
 -- `tablewrite::write::rows_allowed` meets its contract: the search goes from row to row.
-use Prim.Native.Nat.{◌-◌}
 use mathlib.Core.Path.{refl, sym, ◌∙◌}
 use native.Mathlib.Omega.{arith}
 use Rattle.table.proofs.Laws.{places, none_yet, fails_here, passes_here, all_passed}

@@ -1,5 +1,4 @@
 -- `tablewrite::write::write_rows` meets its contract: what is written so far, with the rows left stored behind it, is the whole.
-use Prim.Native.Nat.{◌-◌}
 use mathlib.Core.Path.{refl, sym, ◌∙◌}
 use native.Mathlib.Omega.{arith}
 use Rattle.table.proofs.Laws.{places}
@@ -19,8 +18,7 @@ overflow_add-at c =
 
 pub loop-i-preserved : goal.loop-i-preserved
 loop-i-preserved c =
-    let long = places c.args.t _ c.well_formed.1.0 in
-    (
+    let long = places c.args.t _ c.well_formed.1.0 in (
       refl,
       omega arith,
       c.requires.count_le_most_rows,
