@@ -99,7 +99,9 @@ fn table(rt: &HostRuntime, into: &mut [u8]) -> io::Result<usize>
     ensures { IfOk result (λ n. n ≤ length into.new) }
 {
     let mut file = File::open(rt, "table.avb")?;
-    filled(&mut file, into)
+    let read = filled(&mut file, into);
+    read.outcome?;
+    Ok(read.count)
 }
 
 fn main(rt: HostRuntime) -> io::Result<()> {

@@ -14,7 +14,7 @@ more a n xs ys within fits =
     let rest = post_of a (length xs - a) xs in
     sym (ap (λ k. take (k + n) (take a xs ++ (ys ++ rest))) (sym long) ∙ take-append-add (take a xs) (ys ++ rest) n ∙ ap (λ l. take a xs ++ l) (take-append-le n ys rest fits))
 
-pub loop-done-preserved : goal.loop-done-preserved
-loop-done-preserved g c =
-    let within = c.loop-done.invariant.0 in
-    (search rules, subst (Consumes _ _) (more _ _ _ _ within c.in_ok-n.ensures.bound.0) (Consumes-trans _ _ _ _ _ c.loop-done.invariant.1 c.in_ok-n.ensures.bytes.0))
+pub loop-count-preserved : goal.loop-count-preserved
+loop-count-preserved g c =
+    let within = c.loop-count.invariant.0 in
+    (search rules, subst (Consumes _ _) (more _ _ _ _ within c.in-Ok.ensures.bound.0) (Consumes-trans _ _ _ _ _ c.loop-count.invariant.1 c.in-Ok.ensures.bytes.0))
