@@ -5,3 +5,4 @@ mod Search
 mod Ranged
 mod Patched
 pub mod Laws
+pub mod Answers
