@@ -1,28 +1,27 @@
 -- What an advance's checks say of a record, what an advance then comes to, and what it gives.
+use Rattle.std.specs.Prelude.{Option, Some, None, Ok}
 use Prim.Native.Nat.{ℕ, ◌+◌, ◌≤◌, ◌<◌}
 use mathlib.Core.Bool.{true, false}
 use mathlib.Core.Path.{◌≡◌, refl, sym, ◌∙◌}
 use native.Mathlib.Omega.{arith}
 use borrow.Author.Tests.{le-leb, lt-leb}
 use Rattle.table.specs.Checks.{Outcome, accepted, refused}
+use Rattle.machine.specs.declared.Frame.{Frame}
 use Rattle.machine.specs.declared.Denial.{Denial}
-use Rattle.machine.specs.declared.Ended.{Ended}
-use Rattle.machine.specs.declared.Advance.{Advance}
 use Rattle.machine.specs.declared.Port.{Port}
-use Rattle.machine.specs.declared.Reply.{Reply}
-use Rattle.machine.specs.declared.Reply.TheVariants.{Taken, Passed, Refused}
+use Rattle.machine.specs.declared.Passed.{Passed}
 use Rattle.machine.specs.declared.Effect.{Effect}
 use Rattle.machine.specs.Limits.{last_clock, most_steps}
 use Rattle.machine.specs.State.{State, view}
 use Rattle.machine.specs.Time.{progress}
 use Rattle.machine.specs.Record.{sound}
 use Rattle.machine.specs.Calls.{advance, passed, advance_check, answer_by, number_of, place_of, advance_answer, Gives}
-use Rattle.machine.specs.Effects.{reply_answer, Comes}
+use Rattle.machine.specs.Effects.{passed_answer, Comes, Denied}
 use Rattle.machine.proofs.FromSound.{clauses}
 use Rattle.bytetime.specs.declared.Ran.{Ran}
 use Rattle.bytetime.specs.Ports.{SameRun}
 use Rattle.effects.proofs.Laws.{Carried, carries, refuses}
-use Rattle.advances.specs.Steps.{stay, advance_of}
+use Rattle.advances.specs.Steps.{passed_of}
 use Rattle.advances.proofs.Begins.{room_for}
 use Rattle.advances.proofs.Sent.{ran_effect, sent}
 
@@ -50,20 +49,19 @@ unfolding view
 clock_of_lem p = refl
 
 -- what an advance comes to
-module _ (p : Port) (n : ℕ) {e : Effect} where
-  pub advance_refused : (d : Denial) → advance_check (view p) n ≡ refused (number_of d) (place_of d) → e ≡ stay p d → Comes p (advance n) e
-  advance_refused d h q = refuses p (advance n) d (rw h refl) (rw h refl) q
+module _ (p : Port) (n : ℕ) where
+  pub advance_refused : (d : Denial) → advance_check (view p) n ≡ refused (number_of d) (place_of d) → Denied p (advance n) d
+  advance_refused d h = refuses p (advance n) d (rw h refl) (rw h refl)
 
-  pub advance_accepted : (ran : Ran) → sound (view p) ≡ true → advance_check (view p) n ≡ accepted → SameRun (view p) (progress n (view p)) ran → e ≡ ran_effect p ran → Comes p (advance n) e
+  pub advance_accepted : {e : Effect} (ran : Ran) → sound (view p) ≡ true → advance_check (view p) n ≡ accepted → SameRun (view p) (progress n (view p)) ran → e ≡ ran_effect p ran → Comes p (advance n) e
   advance_accepted ran ok h same q =
-      rw q (record { answer = rw (h, same.passed, same.ended) refl; port = rw h (sent p ran ∙ sym same.state); room = room_for (view p) (clauses (view p) ok) ran.hot.moved ran.hot.sender; kept = tt })
+      rw q (record { answer = rw (h, same.passed, same.ended) refl; port = rw h (sent p ran ∙ sym same.state); room = room_for (view p) (clauses (view p) ok) ran.hot.moved ran.hot.sender })
 
--- an advance that is carried out: it does not reply that it is taken
-reply_is : (r : Reply) (o : Outcome) (k : ℕ) (x : Ended) → reply_answer r ≡ answer_by o (passed k x) → advance_answer (advance_of r) ≡ reply_answer r
-reply_is Taken accepted k x h = let z : ◌≡◌ {A = ℕ} 0 1 = cc in absurd (omega arith)
-reply_is Taken (refused m l) k x h = let z : ◌≡◌ {A = ℕ} 0 1 = cc in absurd (omega arith)
-reply_is (Passed m y) o k x h = refl
-reply_is (Refused d) o k x h = refl
+-- an advance that is carried out: its effect says what it has passed
+passed_is : (x : Option Passed) (o : Outcome) (k : ℕ) (y : Option Frame) → passed_answer x ≡ answer_by o (passed k y) → passed_answer (Some (passed_of x)) ≡ passed_answer x
+passed_is None accepted k y h = let z : ◌≡◌ {A = ℕ} 0 1 = cc in absurd (omega arith)
+passed_is None (refused m l) k y h = let z : ◌≡◌ {A = ℕ} 0 1 = cc in absurd (omega arith)
+passed_is (Some x) o k y h = refl
 
-pub advanced : {p q : Port} {n : ℕ} {e : Effect} {a : Advance} → Comes p (advance n) e → Carried p e q → a ≡ advance_of e.reply → Gives p (advance n) (advance_answer a) q
-advanced {p = p} {n = n} {e = e} m b ea = rw (ea, reply_is e.reply (advance_check (view p) n) _ _ m.answer) (carries m b)
+pub advanced : {p q : Port} {n : ℕ} {e : Effect} {x : Passed} → Comes p (advance n) e → Carried p e q → x ≡ passed_of e.passed → Gives p (advance n) (advance_answer (Ok x)) q
+advanced {p = p} {n = n} {e = e} m b ex = rw (ex, passed_is e.passed (advance_check (view p) n) _ _ m.answer) (carries m b)

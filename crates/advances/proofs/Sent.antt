@@ -1,14 +1,12 @@
 -- What byte-times come to, by the queue whose head went out.
+use Rattle.std.specs.Prelude.{Option, Some, None}
 use Prim.Native.Nat.{◌+◌}
 use mathlib.Core.Bool.{Bool, true, false, cond}
 use mathlib.Core.Path.{◌≡◌, refl}
 use lib.IntN.{ℤ}
 use Rattle.machine.specs.declared.Frame.{Frame}
 use Rattle.machine.specs.declared.Wire.{Wire}
-use Rattle.machine.specs.declared.Ended.{Ended}
-use Rattle.machine.specs.declared.Ended.TheVariants.{Reported, Nothing}
 use Rattle.machine.specs.declared.Port.{Port}
-use Rattle.machine.specs.declared.Reply.TheVariants.{Passed}
 use Rattle.machine.specs.declared.Change.{Change}
 use Rattle.machine.specs.declared.Effect.{Effect}
 use Rattle.machine.specs.State.{view}
@@ -24,7 +22,7 @@ module _ (p : Port) (ran : Ran) where
   abbrev pub ran_effect : Effect
   ran_effect =
       record {
-        reply = Passed ran.passed (ended_by (view p) ran);
+        passed = Some (record { count = ran.passed; ended = ended_by (view p) ran });
         clock = p.clock + ran.passed;
         credita = ran.hot.credita;
         creditb = ran.hot.creditb;
@@ -33,7 +31,7 @@ module _ (p : Port) (ran : Ran) where
       }
 
   -- as the code makes it, part by part
-  pub made : {f : Frame} {x : Ended} {w : Wire} {c : Change} {ca cb : ℤ} → f ≡ frame_of (view p) ran.hot → x ≡ cond ran.ended (Reported f) Nothing → w ≡ wire_by ran.hot.sender f ran.hot.left → c ≡ left_by ran.hot.moved ran.hot.sender → ca ≡ ran.hot.credita → cb ≡ ran.hot.creditb → record { reply = Passed ran.passed x; clock = p.clock + ran.passed; credita = ca; creditb = cb; wire = w; change = c } ≡ ran_effect
+  pub made : {f : Frame} {x : Option Frame} {w : Wire} {c : Option Change} {ca cb : ℤ} → f ≡ frame_of (view p) ran.hot → x ≡ cond ran.ended (Some f) None → w ≡ wire_by ran.hot.sender f ran.hot.left → c ≡ left_by ran.hot.moved ran.hot.sender → ca ≡ ran.hot.credita → cb ≡ ran.hot.creditb → record { passed = Some (record { count = ran.passed; ended = x }); clock = p.clock + ran.passed; credita = ca; creditb = cb; wire = w; change = c } ≡ ran_effect
   made ef ex ew ec ea eb = rw (ex, ew, ec, ea, eb, ef) refl
 
   -- carried out, it is the port after the run

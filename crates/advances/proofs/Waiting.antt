@@ -1,23 +1,16 @@
--- The head of a queue in its places, and the frames behind it.
-use Prim.Native.Nat.{ℕ, zero, suc, ◌-◌, ◌≤◌}
+-- Whether a frame waits in a queue, and whether one waits behind it.
+use Prim.Native.Nat.{ℕ, suc}
 use mathlib.Core.List.{List, [], ◌∷◌}
 use mathlib.Core.Path.{◌≡◌, refl}
 use native.Mathlib.Omega.{arith}
 use lib.Dec.{leb}
-use lib.ListN.{length, get_or}
-use borrow.Author.Tests.{le-leb, ne_eqb}
+use lib.ListN.{length}
+use borrow.Author.Tests.{le-leb}
 use Rattle.machine.specs.declared.Frame.{Frame}
 use Rattle.machine.specs.State.{waiting}
 use Rattle.machine.specs.Time.{behind_head}
-use Rattle.machine.proofs.Places.{zero_frame, waiting_length}
-use Rattle.bytetime.specs.Ports.{some, head_of}
-use Rattle.advances.specs.Steps.{head_by}
-
--- the frame in the first place is the head, if a frame waits
-pub head_is : (n : ℕ) (xs : List Frame) → 1 ≤ length xs → head_by n (get_or xs 0 zero_frame) ≡ head_of (waiting n xs)
-head_is zero xs h = let e : 0 - length xs ≡ 0 = omega arith in rw e refl
-head_is (suc n) [] h = absurd (omega arith)
-head_is (suc n) (f ∷ xs) h = rw (ne_eqb (suc n) 0 (λ z. omega arith)) refl
+use Rattle.machine.proofs.Places.{waiting_length}
+use Rattle.bytetime.specs.Ports.{some}
 
 some_length : (q : List Frame) → leb 1 (length q) ≡ some q
 some_length [] = refl

@@ -3,83 +3,68 @@ ghost use Rattle.std.specs.Prelude.{◌≡◌};
 ghost use Rattle.machine.specs.State.{view};
 ghost use Rattle.machine.specs.Record.{sound};
 ghost use Rattle.machine.specs.Calls.{advance, Advanced};
-ghost use Rattle.machine.specs.Effects.{Comes};
-ghost use Rattle.advances.specs.Steps.{stay, advance_of};
+ghost use Rattle.machine.specs.Effects.{Judges};
+ghost use Rattle.advances.specs.Steps.{passed_of};
 
 use crate::numbers::{fixed, hot};
 use crate::ports::{ended, frame_of, left, wire_now};
 use bytetime::run::run;
 use effects::records::applied;
-use machine::{
-    Advance, AfterAdvance, Change, Denial, Effect, Ended, LAST_CLOCK, MOST_STEPS, Port, Reply,
-};
+use machine::{After, Denial, Effect, LAST_CLOCK, MOST_STEPS, Passed, Port};
 use record::check::is_sound;
-
-// A refused advance changes nothing.
-fn refused(p: Port, d: Denial) -> Effect
-    ensures { result ≡ stay p d }
-{
-    let wire = p.wire;
-    Effect {
-        reply: Reply::Refused(d),
-        clock: p.clock,
-        credita: p.credita,
-        creditb: p.creditb,
-        wire,
-        change: Change::None,
-    }
-}
 
 // What an advance by n byte-times comes to; `whole` is what the record check says (told otherwise, what it comes to is free). The first check that fails decides: broken record, more
 // than 65,535, past the last clock. Else byte-times pass until a frame is reported or n have passed.
-pub fn judge(p: Port, whole: bool, n: u64) -> Effect
-    ensures { whole ≡ sound (view p) → Comes p (advance n) result }
+pub fn judge(p: Port, whole: bool, n: u64) -> Result<Effect, Denial>
+    ensures { whole ≡ sound (view p) → Judges p (advance n) result }
 {
     if !whole {
-        return refused(p, Denial::Broken);
+        return Err(Denial::Broken);
     }
     if MOST_STEPS < n {
-        return refused(p, Denial::TooManySteps);
+        return Err(Denial::TooManySteps);
     }
     if LAST_CLOCK - n < p.clock {
-        return refused(p, Denial::PastLastClock);
+        return Err(Denial::PastLastClock);
     }
     let ran = run(hot(p), fixed(p), n);
     let h = ran.hot;
-    let who = h.sender;
     let f = frame_of(p, h);
-    let e = ended(ran.ended, f);
-    let wire = wire_now(who, f, h.left);
-    let change = left(h.moved, who);
-    Effect {
-        reply: Reply::Passed(ran.passed, e),
+    Ok(Effect {
+        passed: Some(Passed {
+            count: ran.passed,
+            ended: ended(ran.ended, f),
+        }),
         clock: p.clock + ran.passed,
         credita: h.credita,
         creditb: h.creditb,
-        wire,
-        change,
-    }
+        wire: wire_now(h.sender, f, h.left),
+        change: left(h.moved, h.sender),
+    })
 }
 
-fn answer(r: Reply) -> Advance
-    ensures { result ≡ advance_of r }
+// What an effect says that an advance has passed. (The effect of an advance says it.)
+fn passed(e: Effect) -> Passed
+    ensures { result ≡ passed_of e.passed }
 {
-    match r {
-        Reply::Taken => Advance::Passed(0, Ended::Nothing),
-        Reply::Passed(n, e) => Advance::Passed(n, e),
-        Reply::Refused(d) => Advance::Refused(d),
-    }
+    e.passed.unwrap_or(Passed {
+        count: 0,
+        ended: None,
+    })
 }
 
 // An advance by n byte-times: the record checked, the advance judged, and its effect carried out.
-pub fn advance(p: Port, n: u64) -> AfterAdvance
+pub fn advance(p: Port, n: u64) -> After<Result<Passed, Denial>>
     ensures { Advanced p n result }
 {
-    let whole = is_sound(p);
-    let e = judge(p, whole, n);
-    let reply = e.reply;
-    AfterAdvance {
-        answer: answer(reply),
-        port: applied(p, e),
+    match judge(p, is_sound(p), n) {
+        Ok(e) => After {
+            answer: Ok(passed(e)),
+            port: applied(p, e),
+        },
+        Err(d) => After {
+            answer: Err(d),
+            port: p,
+        },
     }
 }

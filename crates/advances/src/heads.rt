@@ -1,9 +1,9 @@
 // The head of a queue.
-ghost use Rattle.std.specs.Prelude.{◌≡◌, get_or};
-ghost use Rattle.machine.specs.State.{no_frame, zero_frame};
-ghost use Rattle.advances.specs.Steps.{head_by};
+ghost use Rattle.std.specs.Prelude.{◌≡◌};
+ghost use Rattle.machine.specs.State.{no_frame, waiting};
+ghost use Rattle.bytetime.specs.Ports.{head_of};
 
-use machine::{BestQueue, Frame, NO_MARK, Queue};
+use machine::{Frame, NO_MARK, Queue};
 
 // What stands for a frame where there is none.
 pub fn no_frame() -> Frame
@@ -16,21 +16,11 @@ pub fn no_frame() -> Frame
     }
 }
 
-// The head of a class's queue.
-pub fn head(q: Queue) -> Frame
-    ensures { result ≡ head_by q.count (get_or q.frames 0 zero_frame) }
+// The head of a queue.
+pub fn head<const N: usize>(q: Queue<N>) -> Frame
+    ensures { result ≡ head_of (waiting q.entry.count q.entry.frames) }
 {
-    if q.count == 0 {
-        return no_frame();
-    }
-    q.frames[0]
-}
-
-// The head of the best-effort queue.
-pub fn best_head(q: BestQueue) -> Frame
-    ensures { result ≡ head_by q.count (get_or q.frames 0 zero_frame) }
-{
-    if q.count == 0 {
+    if q.count == 0 || N == 0 {
         return no_frame();
     }
     q.frames[0]

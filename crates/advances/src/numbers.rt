@@ -6,7 +6,7 @@ ghost use Rattle.machine.specs.Time.{shaped, owner};
 ghost use Rattle.bytetime.specs.Ports.{fixed_of, sender_by, hot_of};
 ghost use Rattle.advances.specs.Steps.{hot_with};
 
-use crate::heads::{best_head, head};
+use crate::heads::head;
 use bytetime::{Fixed, Hot, Sender};
 use machine::{Frame, Port, Wire};
 use table::rows::is_there;
@@ -16,16 +16,12 @@ use table::{Class, ROWS, Table};
 pub fn fixed(p: Port) -> Fixed
     ensures { result ≡ fixed_of (view p) }
 {
-    let header = p.table.header;
-    let heada = head(p.a);
-    let headb = head(p.b);
-    let headbest = best_head(p.best);
     Fixed {
-        idlea: header.idlea,
-        idleb: header.idleb,
-        heada: heada.size,
-        headb: headb.size,
-        headbest: headbest.size,
+        idlea: p.table.header.idlea,
+        idleb: p.table.header.idleb,
+        heada: head(p.a).size,
+        headb: head(p.b).size,
+        headbest: head(p.best).size,
         morea: 2 <= p.a.count,
         moreb: 2 <= p.b.count,
     }
@@ -45,18 +41,11 @@ fn sender(t: Table, f: Frame) -> Sender
     ensures { result ≡ sender_by (owner (contents t) f) }
 {
     let k = f.source as usize;
-    if t.count <= k {
-        return Sender::BestEffort;
+    if k < t.count && k < ROWS && is_there(t.rows[k]) {
+        class_sender(t.rows[k].class)
+    } else {
+        Sender::BestEffort
     }
-    if ROWS <= k {
-        return Sender::BestEffort;
-    }
-    let row = t.rows[k];
-    if !is_there(row) {
-        return Sender::BestEffort;
-    }
-    let class = row.class;
-    class_sender(class)
 }
 
 fn hot_with(p: Port, sender: Sender, left: u32) -> Hot
@@ -78,12 +67,8 @@ fn hot_with(p: Port, sender: Sender, left: u32) -> Hot
 pub fn hot(p: Port) -> Hot
     ensures { result ≡ hot_of (view p) }
 {
-    let w = p.wire;
-    match w {
+    match p.wire {
         Wire::Free => hot_with(p, Sender::Nobody, 0),
-        Wire::Sending(f, left) => {
-            let t = p.table;
-            hot_with(p, sender(t, f), left)
-        }
+        Wire::Sending(f, left) => hot_with(p, sender(p.table, f), left),
     }
 }

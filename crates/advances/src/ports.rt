@@ -1,14 +1,12 @@
 // What byte-times leave: the frame on the wire, the wire, the queue whose head went out, and the frame that was reported.
 ghost use Rattle.std.specs.Prelude.{◌≡◌, cond};
-ghost use Rattle.machine.specs.declared.Ended.{Ended};
 ghost use Rattle.machine.specs.State.{view};
 ghost use Rattle.bytetime.specs.Ports.{head_for, frame_on, frame_of, wire_by};
 ghost use Rattle.advances.specs.Steps.{left_by};
 
-use crate::heads::{best_head, head, no_frame};
-use bytetime::senders::is_nobody;
+use crate::heads::{head, no_frame};
 use bytetime::{Hot, Sender};
-use machine::{Change, Ended, Frame, Port, Wire};
+use machine::{Change, Frame, Port, Wire};
 
 // The head of a sender's queue.
 fn head_for(p: Port, who: Sender) -> Frame
@@ -18,7 +16,7 @@ fn head_for(p: Port, who: Sender) -> Frame
         Sender::Nobody => no_frame(),
         Sender::ClassA => head(p.a),
         Sender::ClassB => head(p.b),
-        Sender::BestEffort => best_head(p.best),
+        Sender::BestEffort => head(p.best),
     }
 }
 
@@ -36,44 +34,41 @@ pub fn frame_of(p: Port, h: Hot) -> Frame
     ensures { result ≡ frame_of (view p) h }
 {
     if h.moved {
-        let who = h.sender;
-        return head_for(p, who);
+        head_for(p, h.sender)
+    } else {
+        frame_on(p.wire)
     }
-    let w = p.wire;
-    frame_on(w)
 }
 
 // The wire: free if nobody has it.
 pub fn wire_now(who: Sender, f: Frame, left: u32) -> Wire
     ensures { result ≡ wire_by who f left }
 {
-    if is_nobody(who) {
-        return Wire::Free;
+    if who == Sender::Nobody {
+        Wire::Free
+    } else {
+        Wire::Sending(f, left)
     }
-    Wire::Sending(f, left)
 }
 
 // The frame that was reported ended, if one was.
-pub fn ended(has: bool, f: Frame) -> Ended
-    ensures { result ≡ cond has (Ended.Reported f) Ended.Nothing }
+pub fn ended(has: bool, f: Frame) -> Option<Frame>
+    ensures { result ≡ cond has (Some f) None }
 {
-    if has {
-        return Ended::Reported(f);
-    }
-    Ended::Nothing
+    has.then_some(f)
 }
 
 // The queue whose head went out, if one has.
-pub fn left(moved: bool, who: Sender) -> Change
+pub fn left(moved: bool, who: Sender) -> Option<Change>
     ensures { result ≡ left_by moved who }
 {
     if !moved {
-        return Change::None;
+        return None;
     }
     match who {
-        Sender::Nobody => Change::None,
-        Sender::ClassA => Change::LeftA,
-        Sender::ClassB => Change::LeftB,
-        Sender::BestEffort => Change::LeftBest,
+        Sender::Nobody => None,
+        Sender::ClassA => Some(Change::LeftA),
+        Sender::ClassB => Some(Change::LeftB),
+        Sender::BestEffort => Some(Change::LeftBest),
     }
 }

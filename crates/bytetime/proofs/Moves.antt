@@ -1,12 +1,9 @@
 -- Laws of the byte-time on numbers: who goes out, how far credits move, and how runs go on.
 use Prim.Native.Nat.{ℕ, zero, suc, ◌+◌, ◌-◌, ◌*◌, ◌≤◌}
 use mathlib.Core.Bool.{Bool, true, false, cond, ◌&&◌}
-use mathlib.Core.Path.{◌≡◌, refl, sym, ◌∙◌, ap}
+use mathlib.Core.Path.{◌≡◌, refl, ◌∙◌, ap}
 use native.Mathlib.Omega.{arith}
-use lib.IntN.{ℤ}
 use lib.Dec.{leb}
-use mir.Syntax.{w64}
-use mir.Val.{SFits, to_z, of_z}
 use Rattle.table.specs.Limits.{D}
 use Rattle.bytetime.specs.declared.Sender.{Sender}
 use Rattle.bytetime.specs.declared.Sender.TheVariants.{Nobody, ClassA, ClassB, BestEffort}
@@ -14,19 +11,7 @@ use Rattle.bytetime.specs.declared.Hot.{Hot}
 use Rattle.bytetime.specs.declared.Fixed.{Fixed}
 use Rattle.bytetime.specs.declared.Ran.{Ran}
 use Rattle.bytetime.specs.Bytes.{is_a, is_b, is_nobody, ready_by, goes_a, goes_b, goes_best, next_by, goes, on_free, started_hot, byte_off, is_over, freed, freed_if_over, passed_hot, tick_hot, ended_hot, further_hot, onward_hot, start_ran, run_hot, Near}
-use Rattle.bytetime.proofs.Signs.{plain, mag_after}
-
--- ---- who goes out
-pub is_ready : {b : Bool} (z : ℤ) (waits : Bool) → SFits w64 z → b ≡ ready_by (to_z w64 (of_z w64 z)) waits → ready_by z waits ≡ b
-is_ready z waits f e = sym (rw (plain f) at e)
-
-pub goes_by : (h : Hot) (x : Fixed) (w : Sender) {v : Sender} {a b : Bool} → v ≡ w → ready_by h.credita h.waitsa ≡ a → ready_by h.creditb h.waitsb ≡ b → v ≡ next_by a b h.waitsbest → goes w h x ≡ on_free h x
-unfolding on_free
-goes_by h x w e ea eb n = rw (ea, eb, ← n, e) refl
-
-pub starts : (h : Hot) (x : Fixed) → is_nobody h.sender ≡ true → on_free h x ≡ started_hot h x
-unfolding started_hot
-starts h x e = rw e refl
+use Rattle.bytetime.proofs.Signs.{mag_after}
 
 pub holds : (h : Hot) (x : Fixed) → is_nobody h.sender ≡ false → h ≡ started_hot h x
 unfolding started_hot

@@ -1,17 +1,16 @@
--- Signed numbers of 64 bits: what their tests say, and how large a sum can be.
+-- Signed numbers of 64 bits, and how large a sum can be.
 use Prim.Native.Nat.{ℕ, zero, suc, ◌+◌, ◌-◌, ◌≤◌, ◌<◌, ◌^◌}
-use mathlib.Core.Bool.{Bool, true, false, cond, true≢false, false≢true}
-use mathlib.Core.Path.{◌≡◌, refl, sym, ◌∙◌, ap}
+use mathlib.Core.Bool.{Bool, true, false, cond}
+use mathlib.Core.Path.{◌≡◌}
 use native.Mathlib.Omega.{arith}
 use lib.IntN.{ℤ, pos, negsuc, sub_ℕ, ◌+ℤ◌, ◌-ℤ◌}
 use lib.Dec.{ltb}
-use lib.Signed.{mag, lt_z}
+use lib.Signed.{mag}
 use mir.Syntax.{w64}
 use mir.Val.{SFits, to_z, of_z}
-use mir.Facts.{to_z-of_z, to_z_pos}
-use borrow.Author.Tests.{ltb-true, ltb-false}
+use mir.Facts.{to_z-of_z}
 use Rattle.machine.specs.Time.{up_to_zero, rise}
-use Rattle.bytetime.specs.Bytes.{earned_with, settled_with, credit_after, ready_by}
+use Rattle.bytetime.specs.Bytes.{earned_with, settled_with, credit_after}
 
 -- a number of 64 bits is itself
 pub plain : {z : ℤ} → SFits w64 z → to_z w64 (of_z w64 z) ≡ z
@@ -19,49 +18,6 @@ plain f = to_z-of_z f
 
 pub small : {z : ℤ} → mag z < 2 ^ 63 → SFits w64 z
 small h = record { sfits = h }
-
-pub natural : {n : ℕ} → n < 2 ^ 63 → to_z w64 n ≡ pos n
-natural h = to_z_pos w64 h
-
--- ---- tests around zero
-above : (z : ℤ) → lt_z (pos 0) z ≡ true → pos 0 ≡ up_to_zero z
-above (pos n) e = refl
-above (negsuc n) e = absurd (false≢true e)
-
-not_above : (z : ℤ) → lt_z (pos 0) z ≡ false → z ≡ up_to_zero z
-not_above (pos n) e = ap pos (omega (arith, ltb-false 0 n e))
-not_above (negsuc n) e = refl
-
-pub goes_to_zero : (z : ℤ) → SFits w64 z → lt_z (pos 0) (to_z w64 (of_z w64 z)) ≡ true → pos 0 ≡ up_to_zero z
-goes_to_zero z f e = above z (rw (plain f) at e)
-
-pub stays_below : (z : ℤ) → SFits w64 z → lt_z (pos 0) (to_z w64 (of_z w64 z)) ≡ false → to_z w64 (of_z w64 z) ≡ up_to_zero z
-stays_below z f e = plain f ∙ not_above z (rw (plain f) at e)
-
--- a credit of 0 or more does not rise
--- a class without a frame gains, and keeps nothing above 0
-at_most_zero : (z : ℤ) → up_to_zero (up_to_zero z) ≡ up_to_zero z
-at_most_zero (pos n) = refl
-at_most_zero (negsuc n) = refl
-
-pub rises : (z : ℤ) (i : ℕ) → up_to_zero (z +ℤ pos i) ≡ up_to_zero (rise z i)
-rises (pos n) i = refl
-rises (negsuc n) i = sym (at_most_zero (negsuc n +ℤ pos i))
-
--- a class may send exactly when its credit is at least 0
-may_send : (z : ℤ) (waits : Bool) → lt_z z (pos 0) ≡ false → waits ≡ ready_by z waits
-may_send (pos n) waits e = refl
-may_send (negsuc n) waits e = absurd (true≢false e)
-
-may_not_send : (z : ℤ) (waits : Bool) → lt_z z (pos 0) ≡ true → false ≡ ready_by z waits
-may_not_send (pos n) waits e = absurd (omega (arith, ltb-true n 0 e))
-may_not_send (negsuc n) waits e = refl
-
-pub sends : (z : ℤ) (waits : Bool) → SFits w64 z → lt_z (to_z w64 (of_z w64 z)) (pos 0) ≡ false → waits ≡ ready_by z waits
-sends z waits f e = may_send z waits (rw (plain f) at e)
-
-pub does_not_send : (z : ℤ) (waits : Bool) → SFits w64 z → lt_z (to_z w64 (of_z w64 z)) (pos 0) ≡ true → false ≡ ready_by z waits
-does_not_send z waits f e = may_not_send z waits (rw (plain f) at e)
 
 -- ---- magnitudes
 mag_difference : (a b : ℕ) → mag (sub_ℕ a b) ≤ a + b

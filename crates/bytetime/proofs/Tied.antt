@@ -1,4 +1,5 @@
 -- The numbers of byte-times stand for the machine's state, start after start and byte after byte.
+use Rattle.std.specs.Prelude.{Option, Some, None}
 use Prim.Native.Nat.{ℕ, zero, suc, ◌+◌, ◌-◌, ◌<◌}
 use mathlib.Core.Bool.{Bool, true, false, cond, not, ◌&&◌, true≢false, false≢true}
 use mathlib.Core.List.{List, [], ◌∷◌}
@@ -13,8 +14,6 @@ use Rattle.table.specs.Limits.{left_at_report}
 use Rattle.table.specs.Rows.{Contents}
 use Rattle.planner.specs.Sums.{idle, send}
 use Rattle.machine.specs.declared.Frame.{Frame}
-use Rattle.machine.specs.declared.Ended.{Ended}
-use Rattle.machine.specs.declared.Ended.TheVariants.{Nothing, Reported}
 use Rattle.machine.specs.declared.Wire.{Wire}
 use Rattle.machine.specs.declared.Wire.TheVariants.{Free, Sending}
 use Rattle.machine.specs.State.{Instant, State}
@@ -111,15 +110,15 @@ at_report left = by_test (eqb (left - 1) left_at_report) refl
     by_test true e = eq-eqb left (suc left_at_report) (omega (arith, eqb-true (left - 1) left_at_report e))
     by_test false e = ne_eqb left (suc left_at_report) (λ z. eqb-false (left - 1) left_at_report e (omega (arith, z)))
 
-reported : (f : Frame) (left : ℕ) → reported_in (Sending f left) ≡ cond (eqb (left - 1) left_at_report) (Reported f) Nothing
+reported : (f : Frame) (left : ℕ) → reported_in (Sending f left) ≡ cond (eqb (left - 1) left_at_report) (Some f) None
 unfolding reported_in
 reported f left = rw (at_report left) refl
 
-none_reported : reported_in Free ≡ Nothing
+none_reported : reported_in Free ≡ None
 unfolding reported_in
 none_reported = refl
 
-ends : (w : Sender) (f : Frame) (left : ℕ) → reported_in (wire_by w f left) ≡ cond (not (is_nobody w) && eqb (left_after (is_nobody w) left) left_at_report) (Reported f) Nothing
+ends : (w : Sender) (f : Frame) (left : ℕ) → reported_in (wire_by w f left) ≡ cond (not (is_nobody w) && eqb (left_after (is_nobody w) left) left_at_report) (Some f) None
 ends Nobody f left = none_reported
 ends ClassA f left = reported f left
 ends ClassB f left = reported f left
@@ -304,11 +303,11 @@ module _ (s₀ : State) (fits : Fits s₀) where
         if_free false n = u
 
     -- what is reported in the byte to come
-    byte_ends : reported_in s.wire ≡ cond (ended_hot (passed_hot h x)) (Reported (frame_of s₀ (passed_hot h x))) Nothing
+    byte_ends : reported_in s.wire ≡ cond (ended_hot (passed_hot h x)) (Some (frame_of s₀ (passed_hot h x))) None
     unfolding passed_hot freed_if_over ended_hot
     byte_ends = ap reported_in t.wire ∙ ends h.sender (frame_of s₀ h) h.left ∙ by_over (is_over (byte_off h x)) refl
       where
-        by_over : (b : Bool) → is_over (byte_off h x) ≡ b → cond (not (is_nobody h.sender) && eqb (left_after (is_nobody h.sender) h.left) left_at_report) (Reported (frame_of s₀ h)) Nothing ≡ cond (ended_hot (cond b (freed (byte_off h x)) (byte_off h x))) (Reported (frame_of s₀ (cond b (freed (byte_off h x)) (byte_off h x)))) Nothing
+        by_over : (b : Bool) → is_over (byte_off h x) ≡ b → cond (not (is_nobody h.sender) && eqb (left_after (is_nobody h.sender) h.left) left_at_report) (Some (frame_of s₀ h)) None ≡ cond (ended_hot (cond b (freed (byte_off h x)) (byte_off h x))) (Some (frame_of s₀ (cond b (freed (byte_off h x)) (byte_off h x)))) None
         by_over true e = rw (over_silent (not (is_nobody h.sender)) (left_after (is_nobody h.sender) h.left) e) refl
         by_over false e = refl
 
@@ -404,7 +403,7 @@ module _ (s₀ : State) (fits : Fits s₀) where
     unfolding byte_time tick_hot
     ticks = passes (start s) (started_hot h x) (starts s h t) (starts_unreported s h t unreported)
 
-    ends_here : ends_in s ≡ cond (ended_hot (tick_hot h x)) (Reported (frame_of s₀ (tick_hot h x))) Nothing
+    ends_here : ends_in s ≡ cond (ended_hot (tick_hot h x)) (Some (frame_of s₀ (tick_hot h x))) None
     unfolding ends_in tick_hot
     ends_here = byte_ends (start s) (started_hot h x) (starts s h t)
 
@@ -423,11 +422,11 @@ module _ (s₀ : State) (fits : Fits s₀) where
   agree_next : (p : Progress) (r : Ran) → Agree p r → Agree (onward p) (onward_hot r x)
   agree_next p r a = by_end r.ended p.ended refl a.ended
     where
-      by_end : (b : Bool) (e : Ended) → r.ended ≡ b → e ≡ ended_by s₀ r → Agree (further e p) (further_hot b r x)
-      by_end true e q g = let z : e ≡ Reported (frame_of s₀ r.hot) = g ∙ rw q refl in rw z a
+      by_end : (b : Bool) (e : Option Frame) → r.ended ≡ b → e ≡ ended_by s₀ r → Agree (further e p) (further_hot b r x)
+      by_end true e q g = let z : e ≡ Some (frame_of s₀ r.hot) = g ∙ rw q refl in rw z a
       by_end false e q g =
           let u = a.unreported q in
-          let z : e ≡ Nothing = g ∙ rw q refl in
+          let z : e ≡ None = g ∙ rw q refl in
           rw z
           (record {
             passed = ap suc a.passed;

@@ -39,10 +39,10 @@ module _ (h : Hot) (x : Fixed) where
     near_b few n = (near_turn few n).creditb
 
     -- a byte-time passes
-    module _ {a b ka kb : Bool} {ra rb : ℤ} (is_a : a ≡ is_a h.sender) (is_b_lem : b ≡ is_b h.sender) (keeps-a : ka ≡ (a && leb 2 left)) (keeps-b : kb ≡ (b && leb 2 left)) (ea : ra ≡ credit_after a ka h.waitsa x.idlea (D - x.idlea) ca) (eb : rb ≡ credit_after b kb h.waitsb x.idleb (D - x.idleb) cb) where
+    module _ {a b : Bool} {ra rb : ℤ} (is_a : a ≡ is_a h.sender) (is_b_lem : b ≡ is_b h.sender) (ea : ra ≡ credit_after a (a && leb 2 left) h.waitsa x.idlea (D - x.idlea) ca) (eb : rb ≡ credit_after b (b && leb 2 left) h.waitsb x.idleb (D - x.idleb) cb) where
       one_passes : {l : ℕ} → l ≡ left_after (is_nobody h.sender) left → freed_if_over (hot_with h ra rb l) ≡ tick_hot (hot_with h ca cb left) x
       unfolding tick_hot passed_hot
-      one_passes el = rw (t.stays, ea, eb, keeps-a, keeps-b, is_a, is_b_lem, el) refl
+      one_passes el = rw (t.stays, ea, eb, is_a, is_b_lem, el) refl
 
       further : (l : ℕ) → l ≡ left_after (is_nobody h.sender) left → {g : Hot} → g ≡ freed_if_over (hot_with h ra rb l) → {e : Bool} → e ≡ ended_hot g → run_hot (i + 1) h x ≡ record { hot = g; passed = i + 1; ended = e }
       further l el eg ee = rw add-one (one_more i h (hot_with h ca cb left) _ x t.ran (eg ∙ one_passes el) ee)
@@ -87,16 +87,19 @@ module _ (h : Hot) (x : Fixed) where
   free_again free s ran na nb = record { ran = ran; stays = rw (free, na, nb, no_best free s) refl }
 
   -- what the loop hands back
-  pub stretched : (n : ℕ) (f g : Hot) → f ≡ g → {i : ℕ} {ra rb : ℤ} {left : ℕ} {e : Bool} {r : Ran} → 1 ≤ i → i ≤ n → r ≡ ran_with f ra rb left i e → run_hot i h x ≡ ran_with g ra rb left i e → Stretch n h x r
-  stretched n f g same some most er e = rw (er, same) (record { some = some; most = most; ran = sym e })
+  pub stretched : (n : ℕ) (g : Hot) {i : ℕ} {ra rb : ℤ} {left : ℕ} {e : Bool} {r : Ran} → 1 ≤ i → i ≤ n → r ≡ ran_with g ra rb left i e → run_hot i h x ≡ ran_with g ra rb left i e → Stretch n h x r
+  stretched n g some most er e = rw er (record { some = some; most = most; ran = sym e })
 
 -- a stretch carries a run on
-module _ (n i : ℕ) (h g s : Hot) (x : Fixed) (r : Ran) (at_i : run_hot i h x ≡ record { hot = g; passed = i; ended = false }) (starts : s ≡ started_hot g x) (e : Stretch n s x r) where
-  from_g : r ≡ run_hot r.passed g x
-  from_g = e.ran ∙ rw starts (run_started r.passed g x e.some)
+abbrev so_ended : Ran → Bool → Ran
+so_ended p b = record { hot = p.hot; passed = p.passed; ended = b }
 
-  pub carried : {b : Bool} → r.ended ≡ b → run_hot (i + r.passed) h x ≡ record { hot = r.hot; passed = i + r.passed; ended = b }
-  carried q = run_on r.passed i h g x at_i ∙ ap (λ (y : Ran). behind i y) (sym from_g) ∙ rw q refl
+module _ (n : ℕ) (h s : Hot) (x : Fixed) (p r : Ran) (so_far : p ≡ run_hot p.passed h x) (on : p.ended ≡ false) (starts : s ≡ started_hot p.hot x) (e : Stretch n s x r) where
+  from_there : r ≡ run_hot r.passed p.hot x
+  from_there = e.ran ∙ rw starts (run_started r.passed p.hot x e.some)
 
-  pub carried_near : {m : ℕ} → Near m g x → Near (m + r.passed * (D + 1)) r.hot x
-  carried_near v = rw (ap (λ (y : Ran). y.hot) from_g) (near_run r.passed v)
+  pub carried : behind p.passed r ≡ run_hot (p.passed + r.passed) h x
+  carried = sym (run_on r.passed p.passed h p.hot x (sym so_far ∙ ap (so_ended p) on) ∙ ap (λ (y : Ran). behind p.passed y) (sym from_there))
+
+  pub carried_near : {m : ℕ} → Near m p.hot x → Near (m + r.passed * (D + 1)) r.hot x
+  carried_near v = rw (ap (λ (y : Ran). y.hot) from_there) (near_run r.passed v)

@@ -1,13 +1,11 @@
 -- The port that the numbers of byte-times stand for.
-use Rattle.std.specs.Prelude.{ℕ, ◌+◌, ◌<◌, Bool, true, false, cond, ◌&&◌, List, [], ◌∷◌, ◌≡◌}
+use Rattle.std.specs.Prelude.{ℕ, ◌+◌, ◌<◌, Bool, true, false, cond, ◌&&◌, List, [], ◌∷◌, ◌≡◌, Option, Some, None}
 use Rattle.table.specs.declared.Class.TheVariants.{A, B}
 use Rattle.table.specs.Limits.{left_at_report}
 use Rattle.table.specs.Rows.{Contents}
 use Rattle.machine.specs.declared.Frame.{Frame}
 use Rattle.machine.specs.declared.Wire.{Wire}
 use Rattle.machine.specs.declared.Wire.TheVariants.{Free, Sending}
-use Rattle.machine.specs.declared.Ended.{Ended}
-use Rattle.machine.specs.declared.Ended.TheVariants.{Reported, Nothing}
 use Rattle.machine.specs.State.{State, no_frame}
 use Rattle.machine.specs.Time.{Owner, shaped, unshaped, owner, behind_head, Progress, progress}
 use Rattle.planner.specs.Sums.{idle}
@@ -107,8 +105,8 @@ after_run s r =
       wire = wire_by r.hot.sender (frame_of s r.hot) r.hot.left;
     }
 
-abbrev pub ended_by : State → Ran → Ended
-ended_by s r = cond r.ended (Reported (frame_of s r.hot)) Nothing
+abbrev pub ended_by : State → Ran → Option Frame
+ended_by s r = cond r.ended (Some (frame_of s r.hot)) None
 
 -- A port whose heads fit, as those of every sound port do: a head is of its queue's class, and longer than what is left at a report.
 pub record HeadFits (t : Contents) (o : Owner) (q : List Frame) : Type 0 where

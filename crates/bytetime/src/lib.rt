@@ -3,11 +3,10 @@
 
 mod credit;
 pub mod run;
-pub mod senders;
 mod start;
 
 // Whose frame is on the wire.
-#[derive(Clone, Copy)]
+#[derive(Clone, Copy, PartialEq, Eq)]
 pub enum Sender {
     Nobody,
     ClassA,

@@ -1,11 +1,10 @@
 // Byte-times until a frame is reported or so many have passed.
-ghost use Rattle.std.specs.Prelude.{◌≡◌, ◌&&◌, ◌≤◌, leb};
+ghost use Rattle.std.specs.Prelude.{◌≡◌, ◌≤◌};
 ghost use Rattle.machine.specs.Limits.{most_steps};
 ghost use Rattle.machine.specs.Record.{between};
-ghost use Rattle.bytetime.specs.Bytes.{started_hot, freed, run_hot, reach, wide, Near, near_hot, steps_of, ran_with, Stretch};
+ghost use Rattle.bytetime.specs.Bytes.{started_hot, run_hot, reach, wide, Near, near_hot, steps_of, Stretch};
 
-use crate::credit::{credit_after, ready};
-use crate::senders::{is_a, is_b, is_nobody};
+use crate::credit::{Shaped, credit_after, ready};
 use crate::start::started;
 use crate::{Fixed, Hot, Ran, Sender};
 use machine::MOST_STEPS;
@@ -13,43 +12,6 @@ use table::wire::{D, LEFT_AT_REPORT};
 
 // How far from 0 a credit may be when a run begins.
 const REACH: i64 = 2_305_843_009_213_693_952;
-
-// A sender still has the wire after a byte.
-fn keeps(on: bool, left: u32) -> bool
-    ensures { result ≡ on && leb 2 left }
-{
-    if on {
-        return 1 < left;
-    }
-    false
-}
-
-// The numbers with other credits and bytes left, and how many byte-times brought them.
-fn ran(h: Hot, credita: i64, creditb: i64, left: u32, passed: u64, ended: bool) -> Ran
-    ensures { result ≡ ran_with h credita creditb left passed ended }
-{
-    let mut hot = h;
-    hot.credita = credita;
-    hot.creditb = creditb;
-    hot.left = left;
-    Ran { hot, passed, ended }
-}
-
-// After a frame's last byte nobody has the wire.
-fn freed(h: Hot) -> Hot
-    ensures { result ≡ freed h }
-{
-    Hot {
-        credita: h.credita,
-        creditb: h.creditb,
-        left: h.left,
-        sender: Sender::Nobody,
-        moved: h.moved,
-        waitsa: h.waitsa,
-        waitsb: h.waitsb,
-        waitsbest: h.waitsbest,
-    }
-}
 
 // One byte-time after the other, while the wire stays free or sends one frame: until it is reported, until its last byte has passed, until a class's head may go out,
 // or until n have passed.
@@ -60,109 +22,93 @@ fn stretch(h: Hot, x: Fixed, n: u64) -> Ran
     requires n_le_most_steps { n ≤ most_steps }
     ensures { Stretch n h x result }
 {
-    let who = h.sender;
-    let free = is_nobody(who);
-    let a = is_a(who);
-    let b = is_b(who);
-    let waitsa = h.waitsa;
-    let waitsb = h.waitsb;
-    let idlea = x.idlea as u64;
-    let idleb = x.idleb as u64;
-    let senda = D - idlea;
-    let sendb = D - idleb;
-    let mut credita = h.credita;
-    let mut creditb = h.creditb;
-    let mut left = h.left;
-    let mut i: u64 = 0;
-    while i < n {
-        credita = credit_after(a, keeps(a, left), waitsa, idlea, senda, credita);
-        creditb = credit_after(b, keeps(b, left), waitsb, idleb, sendb, creditb);
-        i += 1;
+    let free = h.sender == Sender::Nobody;
+    let a = Shaped {
+        on: h.sender == Sender::ClassA,
+        waits: h.waitsa,
+        idle: x.idlea,
+    };
+    let b = Shaped {
+        on: h.sender == Sender::ClassB,
+        waits: h.waitsb,
+        idle: x.idleb,
+    };
+    let mut r = Ran {
+        hot: h,
+        passed: 0,
+        ended: false,
+    };
+    for i in 0..n {
+        r.passed = i + 1;
+        r.hot.credita = credit_after(a, r.hot.left, r.hot.credita);
+        r.hot.creditb = credit_after(b, r.hot.left, r.hot.creditb);
         if free {
-            if ready(credita, waitsa) {
-                return ran(h, credita, creditb, left, i, false);
-            }
-            if ready(creditb, waitsb) {
-                return ran(h, credita, creditb, left, i, false);
+            if ready(r.hot.credita, a.waits) || ready(r.hot.creditb, b.waits) {
+                return r;
             }
         } else {
-            if left <= 1 {
-                return ran(freed(h), credita, creditb, 0, i, false);
+            if r.hot.left <= 1 {
+                // After a frame's last byte nobody has the wire.
+                r.hot.left = 0;
+                r.hot.sender = Sender::Nobody;
+                return r;
             }
-            left -= 1;
-            if left == LEFT_AT_REPORT {
-                return ran(h, credita, creditb, left, i, true);
+            r.hot.left -= 1;
+            if r.hot.left == LEFT_AT_REPORT {
+                r.ended = true;
+                return r;
             }
         }
     }
-    ran(h, credita, creditb, left, i, false)
+    r
 }
 
-// Stretch after stretch.
+// Stretch after stretch. Stays a while: a stretch itself says how many byte-times have passed.
 fn steps(h: Hot, x: Fixed, n: u64) -> Ran
     requires near { Near reach h x }
     requires n_le_most_steps { n ≤ most_steps }
     ensures { result ≡ run_hot n h x }
 {
-    let mut hot = h;
-    let mut i: u64 = 0;
-    while i < n {
-        let next = started(hot, x);
-        let r = stretch(next, x, n - i);
-        i += r.passed;
-        hot = r.hot;
-        if r.ended {
-            return Ran {
-                hot,
-                passed: i,
-                ended: true,
-            };
-        }
-    }
-    Ran {
-        hot,
-        passed: i,
+    let mut r = Ran {
+        hot: h,
+        passed: 0,
         ended: false,
+    };
+    while r.passed < n && !r.ended {
+        let more = stretch(started(r.hot, x), x, n - r.passed);
+        r = Ran {
+            passed: r.passed + more.passed,
+            ..more
+        };
     }
+    r
 }
 
 // A credit is within reach.
 fn within(credit: i64) -> bool
     ensures { result ≡ between reach reach credit }
 {
-    if credit < -REACH {
-        return false;
-    }
-    credit <= REACH
+    (-REACH..=REACH).contains(&credit)
 }
 
 fn near(h: Hot, x: Fixed) -> bool
     ensures { result ≡ near_hot h x }
 {
-    if D < x.idlea as u64 {
-        return false;
-    }
-    if D < x.idleb as u64 {
-        return false;
-    }
-    if !within(h.credita) {
-        return false;
-    }
-    within(h.creditb)
+    x.idlea as u64 <= D && x.idleb as u64 <= D && within(h.credita) && within(h.creditb)
 }
 
 // Byte-times on a port's numbers. Where n or the numbers are out of reach none passes.
+#[tactic(auto, using(std::proofs::lemmas::Bool::Decides::nat_tests, crate::proofs::Moves::no_run), unfolding(crate::specs::Bytes::steps_of))]
 pub fn run(h: Hot, x: Fixed, n: u64) -> Ran
     ensures { result ≡ run_hot (steps_of n h x) h x }
 {
-    if n <= MOST_STEPS {
-        if near(h, x) {
-            return steps(h, x, n);
+    if n <= MOST_STEPS && near(h, x) {
+        steps(h, x, n)
+    } else {
+        Ran {
+            hot: h,
+            passed: 0,
+            ended: false,
         }
-    }
-    Ran {
-        hot: h,
-        passed: 0,
-        ended: false,
     }
 }

@@ -1,6 +1,7 @@
 -- The words of a call that stand in bytes, and zeros behind them: they name the call, and are those of the call that they name.
+use Rattle.std.specs.Prelude.{Some, None}
 use Prim.Native.Nat.{ℕ, zero, suc, ◌+◌, ◌-◌, ◌≤◌}
-use mathlib.Core.Bool.{Bool, true, false, cond, false≢true}
+use mathlib.Core.Bool.{Bool, true, false, cond}
 use mathlib.Core.List.{List, [], ◌∷◌, ◌++◌}
 use mathlib.Core.Path.{◌≡◌, refl, ◌∙◌}
 use native.Mathlib.Nat.{add-zero, zero-add}
@@ -15,8 +16,8 @@ use Rattle.words.proofs.Laws.{Held, word_small}
 use Rattle.rowbytes.specs.Row.{row_at, row_fits}
 use Rattle.rowbytes.proofs.Laws.{row_wide, row_words_lem, row_back, row_fits_lem, row_same, row_small}
 use Rattle.callbytes.specs.declared.Asked.{Asked}
-use Rattle.callbytes.specs.declared.Asked.TheVariants.{Offer, OfferBest, Advance, Join, Leave, Unreadable}
-use Rattle.callbytes.specs.Calls.{call_width, row_start, used_words, call_words, CallFits, call_by, named, is_readable, call_of, used_by, zeros, zeros_from}
+use Rattle.callbytes.specs.declared.Asked.TheVariants.{Offer, OfferBest, Advance, Join, Leave}
+use Rattle.callbytes.specs.Calls.{call_width, row_start, used_words, call_words, CallFits, named_by, named, call_of, call_by, used_by, zeros, zeros_from}
 use Rattle.callbytes.proofs.Named.{offer_named, best_named, advance_named, join_named, leave_named}
 
 -- ---- a call has 9 words, and they are words if it fits
@@ -64,13 +65,6 @@ asked_call (advance n) = refl
 asked_call (join number r) = refl
 asked_call (leave number) = refl
 
-pub asked_readable : (c : Call) → is_readable (asked_of c) ≡ true
-asked_readable (offer row payload) = refl
-asked_readable (offer_best payload) = refl
-asked_readable (advance n) = refl
-asked_readable (join number r) = refl
-asked_readable (leave number) = refl
-
 module _ (s : List ℕ) where
   -- ---- words, and more behind them
   held_append : (k : ℕ) (a b : List ℕ) → Held s k a → Held s (k + length a) b → Held s k (a ++ b)
@@ -95,14 +89,14 @@ module _ (s : List ℕ) where
   zeros_held k (suc n) e = let p = and-true (eqb (word_at s k) 0) (zeros s (k + 1) n) e in (eqb-true (word_at s k) 0 p.0, zeros_held (k + 1) n p.1)
 
   -- ---- a call's words name it
-  used_back : (c : Call) → CallFits c → Held s 0 (used_words c) → asked_of c ≡ named s
+  used_back : (c : Call) → CallFits c → Held s 0 (used_words c) → Some (asked_of c) ≡ named s
   used_back (offer row payload) f h = rw (← h.1.0, ← h.1.1.0) (offer_named s h.0)
   used_back (offer_best payload) f h = rw (← h.1.0) (best_named s h.0)
   used_back (advance n) f h = rw (← h.1.0) (advance_named s h.0)
   used_back (join number r) f h = rw (h.1.0, row_fits_lem s r row_start f.1 h.1.1, row_back s r row_start f.1 h.1.1) at (join_named s h.0)
   used_back (leave number) f h = rw (← h.1.0) (leave_named s h.0)
 
-  pub call_back : (c : Call) → CallFits c → Held s 0 (call_words c) → (asked_of c ≡ named s) × (zeros_from s (used_by (asked_of c)) ≡ true)
+  pub call_back : (c : Call) → CallFits c → Held s 0 (call_words c) → (Some (asked_of c) ≡ named s) × (zeros_from s (used_by (asked_of c)) ≡ true)
   unfolding call_words
   call_back c f h =
       let ws = used_words c in
@@ -110,37 +104,37 @@ module _ (s : List ℕ) where
       (used_back c f p.0, rw (asked_call c) (held_zeros (length ws) (call_width - length ws) (rw (zero-add (length ws)) at p.1)))
 
   -- ---- the words that name a call are its words
-  join_same : (number : ℕ) → word_at s 0 ≡ 3 → word_at s 1 ≡ number → (b : Bool) → row_fits s row_start ≡ b → is_readable (cond b (Join number (row_at s row_start)) Unreadable) ≡ true → Held s 0 (used_words (call_of (cond b (Join number (row_at s row_start)) Unreadable)))
-  join_same number k e true q r = (k, (e, row_same s row_start q))
-  join_same number k e false q r = absurd (false≢true r)
+  join_same : (number : ℕ) → word_at s 0 ≡ 3 → word_at s 1 ≡ number → (b : Bool) → row_fits s row_start ≡ b → (a : Asked) → cond b (Some (Join number (row_at s row_start))) None ≡ Some a → Held s 0 (used_words (call_of a))
+  join_same number k e true q a r = let same : Join number (row_at s row_start) ≡ a = cc in rw (← same) (k, (e, row_same s row_start q))
+  join_same number k e false q a r = cc
 
   -- no kind above 4
-  none_above : (n : ℕ) → call_by (suc (suc (suc (suc (suc n))))) s ≡ Unreadable
+  none_above : (n : ℕ) → named_by (suc (suc (suc (suc (suc n))))) s ≡ None
   none_above n =
       let kind = suc (suc (suc (suc (suc n)))) in
       rw (ne_eqb kind 0 (λ e. omega arith), ne_eqb kind 1 (λ e. omega arith), ne_eqb kind 2 (λ e. omega arith), ne_eqb kind 3 (λ e. omega arith), ne_eqb kind 4 (λ e. omega arith)) refl
 
-  kind_same : (kind : ℕ) → word_at s 0 ≡ kind → is_readable (call_by kind s) ≡ true → Held s 0 (used_words (call_of (call_by kind s)))
-  kind_same zero k e = (k, (refl, (refl, tt)))
-  kind_same (suc zero) k e = (k, (refl, tt))
-  kind_same (suc (suc zero)) k e = (k, (refl, tt))
-  kind_same (suc (suc (suc zero))) k e = join_same (word_at s 1) k refl (row_fits s row_start) refl e
-  kind_same (suc (suc (suc (suc zero)))) k e = (k, (refl, tt))
-  kind_same (suc (suc (suc (suc (suc n))))) k e = absurd (false≢true (rw (none_above n) at e))
+  kind_same : (kind : ℕ) → word_at s 0 ≡ kind → (a : Asked) → named_by kind s ≡ Some a → Held s 0 (used_words (call_of a))
+  kind_same zero k a e = let same : Offer (word_at s 1) (word_at s 2) ≡ a = cc in rw (← same) (k, (refl, (refl, tt)))
+  kind_same (suc zero) k a e = let same : OfferBest (word_at s 1) ≡ a = cc in rw (← same) (k, (refl, tt))
+  kind_same (suc (suc zero)) k a e = let same : Advance (word_at s 1) ≡ a = cc in rw (← same) (k, (refl, tt))
+  kind_same (suc (suc (suc zero))) k a e = join_same (word_at s 1) k refl (row_fits s row_start) refl a e
+  kind_same (suc (suc (suc (suc zero)))) k a e = let same : Leave (word_at s 1) ≡ a = cc in rw (← same) (k, (refl, tt))
+  kind_same (suc (suc (suc (suc (suc n))))) k a e = let z = rw (none_above n) at e in cc
 
-  pub call_same : is_readable (named s) ≡ true → zeros_from s (used_by (named s)) ≡ true → Held s 0 (call_words (call_of (named s)))
+  pub call_same : (a : Asked) → named s ≡ Some a → zeros_from s (used_by a) ≡ true → Held s 0 (call_words (call_of a))
   unfolding named call_words
-  call_same e z =
-      let ws = used_words (call_of (named s)) in
-      held_append 0 ws (replicate (call_width - length ws) 0) (kind_same (word_at s 0) refl e) (rw (zero-add (length ws)) (zeros_held (length ws) (call_width - length ws) z))
+  call_same a e z =
+      let ws = used_words (call_of a) in
+      held_append 0 ws (replicate (call_width - length ws) 0) (kind_same (word_at s 0) refl a e) (rw (zero-add (length ws)) (zeros_held (length ws) (call_width - length ws) z))
 
   -- ---- and it fits
   module _ (b : Bytes s) where
-    join_small : (number : ℕ) → Word number → (b : Bool) → CallFits (call_of (cond b (Join number (row_at s row_start)) Unreadable))
+    join_small : (number : ℕ) → Word number → (b : Bool) → CallFits (call_by (cond b (Some (Join number (row_at s row_start))) None))
     join_small number h true = (h, row_small s row_start)
     join_small number h false = omega arith
 
-    kind_small : (kind : ℕ) → CallFits (call_of (call_by kind s))
+    kind_small : (kind : ℕ) → CallFits (call_by (named_by kind s))
     kind_small zero = (word_small s b 1, word_small s b 2)
     kind_small (suc zero) = word_small s b 1
     kind_small (suc (suc zero)) = word_small s b 1
@@ -148,6 +142,6 @@ module _ (s : List ℕ) where
     kind_small (suc (suc (suc (suc zero)))) = word_small s b 1
     kind_small (suc (suc (suc (suc (suc n))))) = rw (none_above n) (omega arith)
 
-    pub call_small : CallFits (call_of (named s))
+    pub call_small : (a : Asked) → named s ≡ Some a → CallFits (call_of a)
     unfolding named
-    call_small = kind_small (word_at s 0)
+    call_small a e = rw e at (kind_small (word_at s 0))

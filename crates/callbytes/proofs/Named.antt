@@ -1,27 +1,29 @@
 -- The call that words name, and the zeros behind the words that it uses.
-use Prim.Native.Nat.{ℕ, suc, ◌+◌, ◌-◌, ◌≤◌, ◌<◌}
-use mathlib.Core.Bool.{true, false}
+use Rattle.std.specs.Prelude.{Some}
+use Prim.Native.Nat.{ℕ, zero, suc, ◌+◌}
+use mathlib.Core.Bool.{true}
 use mathlib.Core.List.{List}
 use mathlib.Core.Path.{◌≡◌, refl}
-use native.Mathlib.Omega.{arith}
 use lib.ListN.{length}
-use borrow.Author.Tests.{eq-eqb, ne_eqb}
+use lib.Dec.{eqb}
+use Rattle.std.specs.List.{list_all, range_with_len}
+use borrow.Author.Tests.{eq-eqb}
 use Rattle.callbytes.specs.declared.Asked.{Asked}
-use Rattle.callbytes.specs.declared.Asked.TheVariants.{Offer, OfferBest, Advance, Leave, Unreadable}
+use Rattle.callbytes.specs.declared.Asked.TheVariants.{Offer, OfferBest, Advance, Leave}
 use Rattle.words.specs.Words.{word_at}
-use Rattle.callbytes.specs.Calls.{call_width, call_size, join_by, named, used_by, zeros, zeros_from, read_call}
+use Rattle.callbytes.specs.Calls.{call_size, join_by, named, used_by, zeros, zeros_from, read_call}
 
 module _ (s : List ℕ) where
   -- ---- by the first word
-  pub offer_named : word_at s 0 ≡ 0 → Offer (word_at s 1) (word_at s 2) ≡ named s
+  pub offer_named : word_at s 0 ≡ 0 → Some (Offer (word_at s 1) (word_at s 2)) ≡ named s
   unfolding named
   offer_named e = rw e refl
 
-  pub best_named : word_at s 0 ≡ 1 → OfferBest (word_at s 1) ≡ named s
+  pub best_named : word_at s 0 ≡ 1 → Some (OfferBest (word_at s 1)) ≡ named s
   unfolding named
   best_named e = rw e refl
 
-  pub advance_named : word_at s 0 ≡ 2 → Advance (word_at s 1) ≡ named s
+  pub advance_named : word_at s 0 ≡ 2 → Some (Advance (word_at s 1)) ≡ named s
   unfolding named
   advance_named e = rw e refl
 
@@ -29,37 +31,18 @@ module _ (s : List ℕ) where
   unfolding named
   join_named e = rw e refl
 
-  pub leave_named : word_at s 0 ≡ 4 → Leave (word_at s 1) ≡ named s
+  pub leave_named : word_at s 0 ≡ 4 → Some (Leave (word_at s 1)) ≡ named s
   unfolding named
   leave_named e = rw e refl
 
-  pub none_named : (word_at s 0 ≡ 0 → ⊥) → (word_at s 0 ≡ 1 → ⊥) → (word_at s 0 ≡ 2 → ⊥) → (word_at s 0 ≡ 3 → ⊥) → (word_at s 0 ≡ 4 → ⊥) → Unreadable ≡ named s
-  unfolding named
-  none_named a b c d e = rw (ne_eqb (word_at s 0) 0 a, ne_eqb (word_at s 0) 1 b, ne_eqb (word_at s 0) 2 c, ne_eqb (word_at s 0) 3 d, ne_eqb (word_at s 0) 4 e) refl
-
   -- ---- zeros
-  pub zeros_end : (k : ℕ) → call_width ≤ k → zeros_from s k ≡ true
+  pub zeros_all : (k n : ℕ) → list_all (λ i. eqb (word_at s i) 0) (range_with_len k n) ≡ zeros s k n
   unfolding zeros
-  zeros_end k h = let none : call_width - k ≡ 0 = omega arith in rw none refl
-
-  pub zeros_next : (k : ℕ) → k < call_width → word_at s k ≡ 0 → zeros_from s k ≡ zeros_from s (k + 1)
-  unfolding zeros
-  zeros_next k h e = let n : call_width - k ≡ suc (call_width - (k + 1)) = omega arith in rw (n, e) refl
-
-  pub zeros_fail : (k : ℕ) → k < call_width → (word_at s k ≡ 0 → ⊥) → zeros_from s k ≡ false
-  unfolding zeros
-  zeros_fail k h e = let n : call_width - k ≡ suc (call_width - (k + 1)) = omega arith in rw (n, ne_eqb (word_at s k) 0 e) refl
+  zeros_all k zero = refl
+  zeros_all k (suc n) = rw (zeros_all (k + 1) n) refl
 
   -- ---- a call
-  pub no_call : (length s ≡ call_size → ⊥) → Unreadable ≡ read_call s
-  unfolding read_call
-  no_call h = rw (ne_eqb (length s) call_size h) refl
-
-  module _ (a : Asked) (long : length s ≡ call_size) (e : a ≡ named s) where
-    pub rest_used : zeros_from s (used_by a) ≡ false → Unreadable ≡ read_call s
-    unfolding read_call
-    rest_used f = rw (eq-eqb (length s) call_size long, ← e, f) refl
-
-    pub rest_zero : zeros_from s (used_by a) ≡ true → a ≡ read_call s
+  module _ (a : Asked) (long : length s ≡ call_size) (e : Some a ≡ named s) where
+    pub rest_zero : zeros_from s (used_by a) ≡ true → Some a ≡ read_call s
     unfolding read_call
     rest_zero f = rw (eq-eqb (length s) call_size long, ← e, f) refl

@@ -1,25 +1,25 @@
 -- A call and its bytes, an answer and its bytes: each way undoes the other.
+use Rattle.std.specs.Prelude.{Option, Some, None}
 use Prim.Native.Nat.{ℕ, ◌*◌}
 use mathlib.Core.Bool.{Bool, true, false, cond, ◌&&◌}
-use mathlib.Core.List.{[], ◌∷◌}
+use mathlib.Core.List.{List, [], ◌∷◌}
 use mathlib.Core.Path.{◌≡◌, refl, sym, ◌∙◌, ap}
 use native.Mathlib.Omega.{arith}
 use lib.Dec.{eqb}
 use lib.ListN.{length}
 use borrow.Author.Tests.{eq-eqb, ne_eqb, eqb-true}
 use Rattle.table.proofs.Laws.{and-true}
-use Rattle.machine.specs.declared.Ended.{Ended}
-use Rattle.machine.specs.declared.Ended.TheVariants.{Reported, Nothing}
+use Rattle.machine.specs.declared.Frame.{Frame}
 use Rattle.machine.specs.Limits.{no_mark}
 use Rattle.machine.specs.Calls.{Call, offer, offer_best, advance, join, leave, Answer, taken, passed, denied, answer}
 use Rattle.machine.proofs.Within.{DenialWithin, OfferWithin, AdvanceWithin, AnswerWithin, answer_within}
 use Rattle.words.specs.Words.{Every, Word, flat, word_bytes, word_at}
 use Rattle.words.proofs.Laws.{bytes_length, held_whole, whole_held}
-use Rattle.callbytes.specs.declared.Asked.TheVariants.{Unreadable}
-use Rattle.callbytes.specs.Calls.{call_size, call_words, call_bytes, CallFits, named, is_readable, call_of, used_by, zeros_from, read_call, answer_size, answer_words, answer_bytes, says, no_answer, plain_said, taken_said, passed_said, done_said, said, read_answer}
+use Rattle.callbytes.specs.declared.Asked.{Asked}
+use Rattle.callbytes.specs.Calls.{call_size, call_words, call_bytes, named, call_of, used_by, zeros_from, ended, read_call, answer_size, answer_words, answer_bytes, says, no_answer, plain_said, taken_said, passed_said, done_said, said, read_answer}
 use Rattle.callbytes.specs.RoundTrip.{ReadingWrittenCalls, ReadCallsFit, WritingReadCalls, ReadingWrittenAnswers, WritingReadAnswers}
 use Rattle.callbytes.proofs.Named.{rest_zero}
-use Rattle.callbytes.proofs.Held.{call_width_lem, call_words_lem, asked_of, asked_call, asked_readable, call_back, call_same, call_small}
+use Rattle.callbytes.proofs.Held.{call_width_lem, call_words_lem, asked_of, asked_call, call_back, call_same, call_small}
 
 -- ---- calls
 pub reading_written_calls : ReadingWrittenCalls
@@ -28,28 +28,41 @@ reading_written_calls c f =
     let s = flat word_bytes (call_words c) in
     let p = call_back s c f (held_whole (call_words c) (call_words_lem c f)) in
     let long : length s ≡ call_size = bytes_length (call_words c) ∙ rw (call_width_lem c) refl in
-    let e : asked_of c ≡ read_call s = rest_zero s (asked_of c) long p.0 p.1 in
-    record { readable = rw (← e) (asked_readable c); call = rw (← e) (asked_call c) }
+    let e : Some (asked_of c) ≡ read_call s = rest_zero s (asked_of c) long p.0 p.1 in
+    rw (← e) (asked_call c)
 
-pub writing_read_calls : WritingReadCalls
-unfolding read_call call_bytes
-writing_read_calls s b = go (eqb (length s) call_size && zeros_from s (used_by (named s))) refl
+-- what is read is long enough, named by the words, and has zeros behind them
+record Whole (s : List ℕ) (a : Asked) : Type 0 where
+  long : length s ≡ call_size
+  named : named s ≡ Some a
+  rest : zeros_from s (used_by a) ≡ true
+
+whole_lem : (s : List ℕ) (a : Asked) → read_call s ≡ Some a → Whole s a
+unfolding read_call
+whole_lem s a = go (eqb (length s) call_size) refl
   where
-    go : (x : Bool) → (eqb (length s) call_size && zeros_from s (used_by (named s))) ≡ x → is_readable (cond x (named s) Unreadable) ≡ true → flat word_bytes (call_words (call_of (cond x (named s) Unreadable))) ≡ s
-    go true q e =
-        let p = and-true (eqb (length s) call_size) _ q in
-        let ws = call_words (call_of (named s)) in
-        let long : length s ≡ 8 * length ws = eqb-true (length s) call_size p.0 ∙ rw (call_width_lem (call_of (named s))) refl in
-        whole_held s b ws long (call_same s e p.1)
+    rests : (b : Asked) (z : Bool) → zeros_from s (used_by b) ≡ z → length s ≡ call_size → named s ≡ Some b → cond z (Some b) None ≡ Some a → Whole s a
+    rests b true q long n e = let same : b ≡ a = cc in record { long = long; named = rw same at n; rest = rw same at q }
+    rests b false q long n e = cc
+
+    known : (o : Option Asked) → named s ≡ o → length s ≡ call_size → ended s o ≡ Some a → Whole s a
+    known (Some b) n long e = rests b (zeros_from s (used_by b)) refl long n e
+    known None n long e = cc
+
+    go : (x : Bool) → eqb (length s) call_size ≡ x → cond x (ended s (named s)) None ≡ Some a → Whole s a
+    go true q e = known (named s) refl (eqb-true (length s) call_size q) e
     go false q e = cc
 
+pub writing_read_calls : WritingReadCalls
+unfolding call_bytes
+writing_read_calls s a b e =
+    let w = whole_lem s a e in
+    let ws = call_words (call_of a) in
+    let long : length s ≡ 8 * length ws = w.long ∙ rw (call_width_lem (call_of a)) refl in
+    whole_held s b ws long (call_same s a w.named w.rest)
+
 pub read_calls_fit : ReadCallsFit
-unfolding read_call
-read_calls_fit s b = go (eqb (length s) call_size && zeros_from s (used_by (named s)))
-  where
-    go : (x : Bool) → CallFits (call_of (cond x (named s) Unreadable))
-    go true = call_small s b
-    go false = omega arith
+read_calls_fit s a b e = call_small s b a (whole_lem s a e).named
 
 -- ---- answers: reading what was written
 read_answer_lem : (c : Call) (n second source size instant : ℕ) → Every Word (n ∷ second ∷ source ∷ size ∷ instant ∷ []) → read_answer c (flat word_bytes (n ∷ second ∷ source ∷ size ∷ instant ∷ [])) ≡ said c n second source size instant
@@ -72,9 +85,9 @@ offer_back c is (denied n place) f = denied_back c n place f
 advance_back : (m : ℕ) (a : Answer) → AdvanceWithin a → read_answer (advance m) (answer_bytes a) ≡ says a
 unfolding answer_bytes
 advance_back m taken f = absurd f
-advance_back m (passed n (Reported g)) f =
+advance_back m (passed n (Some g)) f =
     read_answer_lem (advance m) 0 n g.source g.size g.taken (omega (arith, f.0, f.1.source, f.1.size, f.1.taken)) ∙ rw (ne_eqb g.source no_mark (λ z. omega (arith, f.1.source))) refl
-advance_back m (passed n Nothing) f = read_answer_lem (advance m) 0 n no_mark 0 0 (omega (arith, f.0))
+advance_back m (passed n None) f = read_answer_lem (advance m) 0 n no_mark 0 0 (omega (arith, f.0))
 advance_back m (denied n place) f = denied_back (advance m) n place f
 
 answer_back : (c : Call) (a : Answer) → AnswerWithin c a → read_answer c (answer_bytes a) ≡ says a
@@ -109,12 +122,12 @@ taken_words b second source size instant = go (eqb second 0) refl
 passed_words : (b : Answer) (count source size instant : ℕ) → passed_said count source size instant ≡ says b → answer_words b ≡ 0 ∷ count ∷ source ∷ size ∷ instant ∷ []
 passed_words b count source size instant = go (eqb source no_mark) (eqb size 0 && eqb instant 0) refl refl
   where
-    ended : Ended
-    ended = Reported (record { source = source; size = size; taken = instant })
+    ended : Option Frame
+    ended = Some (record { source = source; size = size; taken = instant })
 
-    go : (x y : Bool) → eqb source no_mark ≡ x → (eqb size 0 && eqb instant 0) ≡ y → cond x (cond y (says (passed count Nothing)) no_answer) (says (passed count ended)) ≡ says b → answer_words b ≡ 0 ∷ count ∷ source ∷ size ∷ instant ∷ []
+    go : (x y : Bool) → eqb source no_mark ≡ x → (eqb size 0 && eqb instant 0) ≡ y → cond x (cond y (says (passed count None)) no_answer) (says (passed count ended)) ≡ says b → answer_words b ≡ 0 ∷ count ∷ source ∷ size ∷ instant ∷ []
     go true true qx qy e =
-        let same : passed count Nothing ≡ b = cc in
+        let same : passed count None ≡ b = cc in
         let none = and-true (eqb size 0) (eqb instant 0) qy in
         ap answer_words (sym same) ∙ rw (eqb-true source no_mark qx, eqb-true size 0 none.0, eqb-true instant 0 none.1) refl
     go true false qx qy e = let z : ◌≡◌ {A = ℕ} 0 1 = cc in absurd (omega arith)

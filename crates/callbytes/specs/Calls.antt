@@ -1,11 +1,10 @@
 -- A call and its answer as words.
-use Rattle.std.specs.Prelude.{ℕ, zero, suc, ◌+◌, ◌-◌, ◌*◌, Bool, true, false, cond, ◌&&◌, List, [], ◌∷◌, ◌++◌, leb, eqb, length, drop, replicate}
-use Rattle.machine.specs.declared.Ended.{Ended}
-use Rattle.machine.specs.declared.Ended.TheVariants.{Reported, Nothing}
+use Rattle.std.specs.Prelude.{ℕ, zero, suc, ◌+◌, ◌-◌, ◌*◌, Bool, true, false, cond, ◌&&◌, List, [], ◌∷◌, ◌++◌, leb, eqb, length, drop, replicate, Option, Some, None}
+use Rattle.machine.specs.declared.Frame.{Frame}
 use Rattle.machine.specs.Limits.{no_mark}
 use Rattle.machine.specs.Calls.{Call, offer, offer_best, advance, join, leave, Answer, taken, passed, denied}
 use Rattle.callbytes.specs.declared.Asked.{Asked}
-use Rattle.callbytes.specs.declared.Asked.TheVariants.{Offer, OfferBest, Advance, Join, Leave, Unreadable}
+use Rattle.callbytes.specs.declared.Asked.TheVariants.{Offer, OfferBest, Advance, Join, Leave}
 use Rattle.words.specs.Words.{Word, flat, word_bytes, word_at}
 use Rattle.rowbytes.specs.Row.{row_words, row_at, row_fits}
 use Rattle.rowbytes.specs.Fits.{RowFits}
@@ -47,33 +46,28 @@ CallFits (join number r) = Word number × RowFits r
 CallFits (leave number) = Word number
 
 -- The call that words name, whatever stands behind the last that it uses. A row whose words do not fit their fields can't be read.
-abbrev pub join_by : List ℕ → ℕ → Asked
-join_by s number = cond (row_fits s row_start) (Join number (row_at s row_start)) Unreadable
+abbrev pub join_by : List ℕ → ℕ → Option Asked
+join_by s number = cond (row_fits s row_start) (Some (Join number (row_at s row_start))) None
 
-abbrev pub call_by : (kind : ℕ) → List ℕ → Asked
-call_by kind s =
-    cond (eqb kind 0) (Offer (word_at s 1) (word_at s 2))
-    (cond (eqb kind 1) (OfferBest (word_at s 1)) (cond (eqb kind 2) (Advance (word_at s 1)) (cond (eqb kind 3) (join_by s (word_at s 1)) (cond (eqb kind 4) (Leave (word_at s 1)) Unreadable))))
+abbrev pub named_by : (kind : ℕ) → List ℕ → Option Asked
+named_by kind s =
+    cond (eqb kind 0) (Some (Offer (word_at s 1) (word_at s 2)))
+    (cond (eqb kind 1) (Some (OfferBest (word_at s 1))) (cond (eqb kind 2) (Some (Advance (word_at s 1))) (cond (eqb kind 3) (join_by s (word_at s 1)) (cond (eqb kind 4) (Some (Leave (word_at s 1))) None))))
 
-unfoldable pub named : List ℕ → Asked
-named s = call_by (word_at s 0) s
+unfoldable pub named : List ℕ → Option Asked
+named s = named_by (word_at s 0) s
 
-abbrev pub is_readable : Asked → Bool
-is_readable (Offer row payload) = true
-is_readable (OfferBest payload) = true
-is_readable (Advance n) = true
-is_readable (Join number r) = true
-is_readable (Leave number) = true
-is_readable Unreadable = false
-
--- An advance by 0 stands for a call that can't be read. The calls that C links refuse such a call, and make none.
 abbrev pub call_of : Asked → Call
 call_of (Offer row payload) = offer row payload
 call_of (OfferBest payload) = offer_best payload
 call_of (Advance n) = advance n
 call_of (Join number r) = join number r
 call_of (Leave number) = leave number
-call_of Unreadable = advance 0
+
+-- An advance by 0 stands for a call that can't be read. The calls that C links refuse such a call, and make none.
+abbrev pub call_by : Option Asked → Call
+call_by (Some a) = call_of a
+call_by None = advance 0
 
 -- How many words a call uses.
 abbrev pub used_by : Asked → ℕ
@@ -87,14 +81,19 @@ zeros s k (suc n) = eqb (word_at s k) 0 && zeros s (k + 1) n
 abbrev pub zeros_from : List ℕ → ℕ → Bool
 zeros_from s k = zeros s k (call_width - k)
 
--- What bytes ask for: 9 words that name a call, with zeros behind those that it uses.
-unfoldable pub read_call : List ℕ → Asked
-read_call s = cond (eqb (length s) call_size && zeros_from s (used_by (named s))) (named s) Unreadable
+-- A call that words name, if zeros stand behind those that it uses.
+abbrev pub ended : List ℕ → Option Asked → Option Asked
+ended s (Some a) = cond (zeros_from s (used_by a)) (Some a) None
+ended s None = None
+
+-- What bytes ask for: 9 words that name a call, with zeros behind those that it uses; or nothing.
+unfoldable pub read_call : List ℕ → Option Asked
+read_call s = cond (eqb (length s) call_size) (ended s (named s)) None
 
 -- An answer: 5 words. The refusal's number, or 0; its place, or the byte-times passed; the ended frame's source, size and instant taken, or 33, 0, 0 for none.
-abbrev pub ended_words : Ended → List ℕ
-ended_words (Reported f) = f.source ∷ f.size ∷ f.taken ∷ []
-ended_words Nothing = no_mark ∷ 0 ∷ 0 ∷ []
+abbrev pub ended_words : Option Frame → List ℕ
+ended_words (Some f) = f.source ∷ f.size ∷ f.taken ∷ []
+ended_words None = no_mark ∷ 0 ∷ 0 ∷ []
 
 abbrev pub answer_words : Answer → List ℕ
 answer_words taken = 0 ∷ 0 ∷ no_mark ∷ 0 ∷ 0 ∷ []
@@ -118,7 +117,7 @@ taken_said second source size instant = cond (eqb second 0) (plain_said taken so
 
 -- Byte-times passed, and a frame; 33, 0, 0 is none, and 33 before other numbers is no frame.
 abbrev pub passed_said : (count source size instant : ℕ) → Said
-passed_said count source size instant = cond (eqb source no_mark) (cond (eqb size 0 && eqb instant 0) (says (passed count Nothing)) no_answer) (says (passed count (Reported (record { source = source; size = size; taken = instant }))))
+passed_said count source size instant = cond (eqb source no_mark) (cond (eqb size 0 && eqb instant 0) (says (passed count None)) no_answer) (says (passed count (Some (record { source = source; size = size; taken = instant }))))
 
 -- What is no refusal goes by the call: a taken offer has the words of an advance in which no byte-time passed and no frame ended.
 abbrev pub done_said : Call → (second source size instant : ℕ) → Said

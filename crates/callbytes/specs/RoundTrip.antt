@@ -1,15 +1,15 @@
 -- Reading and writing calls and answers undo each other: the theorems' statements.
-use Rattle.std.specs.Prelude.{ℕ, true, List, ◌≡◌}
+use Rattle.std.specs.Prelude.{ℕ, List, ◌≡◌, Option, Some, None}
 use Rattle.machine.specs.State.{State}
 use Rattle.machine.specs.Calls.{Call, Answer, answer}
 use Rattle.words.specs.Words.{Bytes}
 use Rattle.callbytes.specs.declared.Asked.{Asked}
-use Rattle.callbytes.specs.Calls.{call_bytes, CallFits, read_call, is_readable, call_of, answer_bytes, says, read_answer}
+use Rattle.callbytes.specs.Calls.{call_bytes, CallFits, read_call, call_of, answer_bytes, says, read_answer}
 
 -- What was read is the call again.
-pub record ReadBack (c : Call) (a : Asked) : Type 0 where
-  pub readable : is_readable a ≡ true
-  pub call : call_of a ≡ c
+abbrev pub ReadBack : Call → Option Asked → Type 0
+ReadBack c (Some a) = call_of a ≡ c
+ReadBack c None = ⊥
 
 -- Reading what was written gives the call: so for every call whose numbers fit.
 abbrev pub ReadingWrittenCalls : Type 0
@@ -17,11 +17,11 @@ ReadingWrittenCalls = (c : Call) → CallFits c → ReadBack c (read_call (call_
 
 -- The call that bytes name fits: so the calls that bytes hold are exactly those that fit.
 abbrev pub ReadCallsFit : Type 0
-ReadCallsFit = (s : List ℕ) → Bytes s → CallFits (call_of (read_call s))
+ReadCallsFit = (s : List ℕ) (a : Asked) → Bytes s → read_call s ≡ Some a → CallFits (call_of a)
 
 -- Writing what was read gives the bytes, to the last: so for every list of bytes that can be read.
 abbrev pub WritingReadCalls : Type 0
-WritingReadCalls = (s : List ℕ) → Bytes s → is_readable (read_call s) ≡ true → call_bytes (call_of (read_call s)) ≡ s
+WritingReadCalls = (s : List ℕ) (a : Asked) → Bytes s → read_call s ≡ Some a → call_bytes (call_of a) ≡ s
 
 -- Reading what was written gives the answer: so for every port, sound or broken, and every call.
 abbrev pub ReadingWrittenAnswers : Type 0

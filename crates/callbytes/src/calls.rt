@@ -1,12 +1,11 @@
 // A call from bytes.
-ghost use Rattle.std.specs.Prelude.{◌≡◌, ◌+◌, length};
-ghost use Rattle.rowbytes.specs.Row.{row_words};
-ghost use Rattle.callbytes.specs.Calls.{row_start, join_by, named, used_by, zeros_from, read_call, is_readable};
+ghost use Rattle.std.specs.Prelude.{◌≡◌};
+ghost use Rattle.callbytes.specs.Calls.{join_by, named, used_by, zeros_from, read_call};
 
 use crate::Asked;
 use rowbytes::fits::row_fits;
 use rowbytes::read::row_at;
-use table::{Pace, Row};
+use table::Pace;
 use words::words::word;
 
 // The words and the bytes of a call, and the first word of a row that joins.
@@ -17,61 +16,39 @@ pub const CALL_SIZE: usize = 8 * CALL_WIDTH;
 const ROW_START: usize = 2;
 
 // A row that joins at a number, if its words fit their fields.
-fn join_by(s: &[u8], number: u64) -> Asked
+fn join_by(s: &[u8], number: u64) -> Option<Asked>
     ensures { result ≡ join_by s.now number }
 {
-    if !row_fits(s, ROW_START) {
-        return Asked::Unreadable;
-    }
-    let row = row_at(s, ROW_START);
-    Asked::Join(number, row)
+    row_fits(s, ROW_START).then_some(Asked::Join(number, row_at(s, ROW_START)))
 }
 
 // The call that words name, whatever stands behind the last that it uses.
-fn named(s: &[u8]) -> Asked
+#[tactic(auto, unfolding(crate::specs::Calls::named))]
+fn named(s: &[u8]) -> Option<Asked>
     ensures { result ≡ named s.now }
 {
-    let kind = word(s, 0);
     let x = word(s, 1);
-    if kind == 0 {
-        return Asked::Offer(x, word(s, 2));
+    match word(s, 0) {
+        0 => Some(Asked::Offer(x, word(s, 2))),
+        1 => Some(Asked::OfferBest(x)),
+        2 => Some(Asked::Advance(x)),
+        3 => join_by(s, x),
+        4 => Some(Asked::Leave(x)),
+        _ => None,
     }
-    if kind == 1 {
-        return Asked::OfferBest(x);
-    }
-    if kind == 2 {
-        return Asked::Advance(x);
-    }
-    if kind == 3 {
-        return join_by(s, x);
-    }
-    if kind == 4 {
-        return Asked::Leave(x);
-    }
-    Asked::Unreadable
 }
 
 // How many words a call uses: a join up to the last of its row's.
-fn row_end(row: Row) -> usize
-    ensures { result ≡ row_start + length (row_words row) }
-{
-    let pace = row.pace;
-    match pace {
-        Pace::Period(_) => 8,
-        Pace::Rated(_, _) => 9,
-    }
-}
-
 fn used(a: Asked) -> usize
     ensures { result ≡ used_by a }
 {
     match a {
         Asked::Offer(_, _) => 3,
-        Asked::OfferBest(_) => 2,
-        Asked::Advance(_) => 2,
-        Asked::Join(_, row) => row_end(row),
-        Asked::Leave(_) => 2,
-        Asked::Unreadable => 2,
+        Asked::Join(_, row) => match row.pace {
+            Pace::Period(_) => 8,
+            Pace::Rated(_, _) => 9,
+        },
+        Asked::OfferBest(_) | Asked::Advance(_) | Asked::Leave(_) => 2,
     }
 }
 
@@ -79,38 +56,16 @@ fn used(a: Asked) -> usize
 fn zeros_from(s: &[u8], k: usize) -> bool
     ensures { result ≡ zeros_from s.now k }
 {
-    let mut i = k;
-    while i < CALL_WIDTH {
-        if word(s, i) != 0 {
-            return false;
-        }
-        i += 1;
-    }
-    true
+    (k..CALL_WIDTH).all(|i| word(s, i) == 0)
 }
 
-pub fn read_call(bytes: &[u8]) -> Asked
+#[tactic(auto, unfolding(crate::specs::Calls::read_call))]
+pub fn read_call(bytes: &[u8]) -> Option<Asked>
     ensures { result ≡ read_call bytes.now }
 {
     if bytes.len() != CALL_SIZE {
-        return Asked::Unreadable;
+        return None;
     }
-    let asked = named(bytes);
-    if !zeros_from(bytes, used(asked)) {
-        return Asked::Unreadable;
-    }
-    asked
-}
-
-pub fn is_readable(a: Asked) -> bool
-    ensures { result ≡ is_readable a }
-{
-    match a {
-        Asked::Offer(_, _) => true,
-        Asked::OfferBest(_) => true,
-        Asked::Advance(_) => true,
-        Asked::Join(_, _) => true,
-        Asked::Leave(_) => true,
-        Asked::Unreadable => false,
-    }
+    let asked = named(bytes)?;
+    zeros_from(bytes, used(asked)).then_some(asked)
 }

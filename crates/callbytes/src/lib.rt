@@ -4,7 +4,7 @@
 pub mod answers;
 pub mod calls;
 
-// What bytes ask for: an offer to a row (row, payload), an offer of best effort, an advance, a row to join at a number, the row at a number to leave; or nothing that can be read.
+// What bytes ask for: an offer to a row (row, payload), an offer of best effort, an advance, a row to join at a number, the row at a number to leave.
 #[derive(Clone, Copy)]
 pub enum Asked {
     Offer(u64, u64),
@@ -12,5 +12,4 @@ pub enum Asked {
     Advance(u64),
     Join(u64, table::Row),
     Leave(u64),
-    Unreadable,
 }

@@ -1,93 +1,76 @@
 // A record on which an effect is carried out.
-ghost use Rattle.std.specs.Prelude.{◌≡◌};
+ghost use Rattle.std.specs.Prelude.{◌≡◌, length};
+ghost use Rattle.table.specs.Limits.{most_rows};
 ghost use Rattle.machine.specs.State.{view};
 ghost use Rattle.machine.specs.Calls.{Became};
 ghost use Rattle.machine.specs.Effects.{Stays};
-ghost use Rattle.effects.specs.Records.{settled_on, instants_with, applied_to};
+ghost use Rattle.effects.specs.Records.{settled_on, instants_with, changed_in, applied_to};
 
-use crate::queues::{best_pushed, best_shifted, pushed, shifted};
-use machine::{Change, Effect, Frame, Last, Port};
+use crate::queues::{pushed, shifted};
+use machine::{Change, Effect, Frame, Port};
 use table::ROWS;
 
-// The record with an effect's clock, credits and wire. (A store to a field that is an enum is not to be had, so it is made anew.)
-pub fn settled(p: Port, e: Effect) -> Port
-    ensures { result ≡ settled_on e p }
+// The effect's clock, credits and wire in a record.
+fn settle(p: &mut Port, e: Effect)
+    ensures { p.new ≡ settled_on e p.old }
 {
-    let table = p.table;
-    let bounds = p.bounds;
-    let a = p.a;
-    let b = p.b;
-    let best = p.best;
-    let last = p.last;
-    let wire = e.wire;
-    Port {
-        table,
-        bounds,
-        clock: e.clock,
-        credita: e.credita,
-        creditb: e.creditb,
-        a,
-        b,
-        best,
-        last,
-        wire,
-    }
+    p.clock = e.clock;
+    p.credita = e.credita;
+    p.creditb = e.creditb;
+    p.wire = e.wire;
 }
 
-// The instants with that of a row's frame as its last. A frame that names no place leaves them as they are.
-fn noted(last: [Last; ROWS], f: Frame) -> [Last; ROWS]
-    ensures { result ≡ instants_with f last }
+// The instant of a row's frame as its row's last. A frame that names no place leaves them as they are.
+fn note(last: &mut [Option<u64>; ROWS], f: Frame)
+    ensures value { last.new ≡ instants_with f last.old }
+    ensures places { length last.old ≡ most_rows }
 {
     let k = f.source as usize;
-    let mut next = last;
     if k < ROWS {
-        next[k] = Last {
-            known: true,
-            taken: f.taken,
-        };
+        last[k] = Some(f.taken);
     }
-    next
 }
 
-// The record with an effect carried out as far as it has places, by value. (Where a record is a local it is changed in its place: replay, src/list.rt.)
+// A queue changed as far as it has places, and the instant of a row's frame noted.
+fn change(p: &mut Port, change: Change)
+    ensures { Became (changed_in (Some change) (view p.old)) p.old p.new }
+{
+    match change {
+        Change::LeftA => p.a = shifted(p.a),
+        Change::LeftB => p.b = shifted(p.b),
+        Change::LeftBest => p.best = shifted(p.best),
+        Change::JoinedA(f) => {
+            p.a = pushed(p.a, f);
+            note(&mut p.last, f);
+        }
+        Change::JoinedB(f) => {
+            p.b = pushed(p.b, f);
+            note(&mut p.last, f);
+        }
+        Change::JoinedBest(f) => p.best = pushed(p.best, f),
+    }
+}
+
+// An effect carried out on a lent record, as far as it has places.
+pub fn apply(p: &mut Port, e: Effect)
+    ensures became { Became (applied_to e (view p.old)) p.old p.new }
+    ensures kept { Stays p.old e → p.new ≡ p.old }
+{
+    match e.change {
+        None => settle(p, e),
+        Some(c) => {
+            change(p, c);
+            settle(p, e);
+        }
+    }
+}
+
+// The record with an effect carried out.
 pub fn applied(p: Port, e: Effect) -> Port
     ensures became { Became (applied_to e (view p)) p result }
     ensures kept { Stays p e → result ≡ p }
 {
-    let mut r = p;
-    let change = e.change;
-    match change {
-        Change::None => {}
-        Change::LeftA => {
-            let a = shifted(p.a);
-            r.a = a;
-        }
-        Change::LeftB => {
-            let b = shifted(p.b);
-            r.b = b;
-        }
-        Change::LeftBest => {
-            let best = best_shifted(p.best);
-            r.best = best;
-        }
-        Change::JoinedA(f) => {
-            let a = pushed(p.a, f);
-            r.a = a;
-            let before = p.last;
-            let last = noted(before, f);
-            r.last = last;
-        }
-        Change::JoinedB(f) => {
-            let b = pushed(p.b, f);
-            r.b = b;
-            let before = p.last;
-            let last = noted(before, f);
-            r.last = last;
-        }
-        Change::JoinedBest(f) => {
-            let best = best_pushed(p.best, f);
-            r.best = best;
-        }
-    }
-    settled(r, e)
+    let mut q = p;
+    apply(&mut q, e);
+    q
 }

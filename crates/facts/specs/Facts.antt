@@ -1,6 +1,6 @@
 -- One table of facts: what the definitions themselves give for the specimen, for the same with two rows that name a sample rate, for C-12's tables, for C-13, for rows that join and leave (C-15), and for tagged rows (C-16). The
 -- figures are C-13's.
-use Rattle.std.specs.Prelude.{ℕ, ◌+◌, ◌≤◌, List, [], ◌∷◌, ◌++◌, map, true, false, ◌≡◌, pos, negsuc, set, replicate}
+use Rattle.std.specs.Prelude.{ℕ, ◌+◌, ◌≤◌, List, [], ◌∷◌, ◌++◌, map, true, false, ◌≡◌, pos, negsuc, set, replicate, Some, None}
 use Rattle.table.specs.declared.Class.TheVariants.{A, B}
 use Rattle.table.specs.declared.Pace.TheVariants.{Rated}
 use Rattle.table.specs.Wire.{wire_size, size_for, size_of, paced, period_of, share_of}
@@ -10,7 +10,6 @@ use Rattle.table.specs.Ranges.{pace_ok}
 use Rattle.planner.specs.Bound.{blocking, residence, bound, most_of, most_in, bounds}
 use Rattle.planner.specs.Opening.{opening}
 use Rattle.machine.specs.declared.Wire.TheVariants.{Free, Sending}
-use Rattle.machine.specs.declared.Ended.TheVariants.{Reported, Nothing}
 use Rattle.machine.specs.State.{never, at, State, fresh}
 use Rattle.machine.specs.Record.{taken_of, sound}
 use Rattle.machine.specs.Calls.{Call, offer, offer_best, advance, join, leave, Answer, taken, passed, denied, after, answer}
@@ -120,12 +119,12 @@ pub record Facts : Type 0 where
   pub c_42 : wire_size 42 ≡ 84
   pub c_43 : wire_size 43 ≡ 85
   pub c_1500 : wire_size 1500 ≡ 1542
-  pub d_first : answer (port in_d) (advance 5000) ≡ passed 1529 (Reported (record { source = 32; size = 1542; taken = 0 }))
-  pub d_again : answer (after (port in_d) (advance 5000)) (advance 5000) ≡ passed 100 (Reported (record { source = 0; size = 100; taken = 1 }))
+  pub d_first : answer (port in_d) (advance 5000) ≡ passed 1529 (Some (record { source = 32; size = 1542; taken = 0 }))
+  pub d_again : answer (after (port in_d) (advance 5000)) (advance 5000) ≡ passed 100 (Some (record { source = 0; size = 100; taken = 1 }))
   pub d_credit : (port (in_d ++ advance 5000 ∷ advance 5000 ∷ advance 12 ∷ [])).credita ≡ pos 0
-  pub e_first : answer (port (offer 0 58 ∷ [])) (advance 5000) ≡ passed 88 (Reported (record { source = 0; size = 100; taken = 0 }))
+  pub e_first : answer (port (offer 0 58 ∷ [])) (advance 5000) ≡ passed 88 (Some (record { source = 0; size = 100; taken = 0 }))
   pub e_credit : (port (report_e ++ advance 12 ∷ [])).credita ≡ negsuc 74999999
-  pub e_second : answer (port in_e) (advance 1000) ≡ passed 588 (Reported (record { source = 1; size = 300; taken = 100 }))
+  pub e_second : answer (port in_e) (advance 1000) ≡ passed 588 (Some (record { source = 1; size = 300; taken = 100 }))
   pub g_clock : (port in_g).clock ≡ 15624
   pub g_early : answer (port in_g) (offer 0 58) ≡ denied 13 0
   pub g_taken : answer (after (port in_g) (advance 1)) (offer 0 58) ≡ taken
@@ -158,7 +157,7 @@ pub record Facts : Type 0 where
   pub long_most : most_of often often_row ≡ 4
   -- all four offers are taken, and their frames are in the port at once; the first is reported 433 byte-times after it was taken
   pub four_held : taken_of 0 (played (fresh often) four) ≡ 1 ∷ 121 ∷ 241 ∷ 361 ∷ []
-  pub four_first : answer (played (fresh often) four) (advance 120) ≡ passed 73 (Reported (record { source = 0; size = 84; taken = 1 }))
+  pub four_first : answer (played (fresh often) four) (advance 120) ≡ passed 73 (Some (record { source = 0; size = 84; taken = 1 }))
   -- 119 byte-times after the fourth a fifth is early, though no more than three frames of the row are in the port; after 120 it is taken, and they are four again
   pub fifth_clock : fifth.clock ≡ 480
   pub fifth_held : taken_of 0 fifth ≡ 121 ∷ 241 ∷ 361 ∷ []
@@ -177,12 +176,12 @@ pub record Facts : Type 0 where
   -- credit goes on falling in the gap: −66,000,000 at (e)'s first report, −75,000,000 when 12 more have passed
   pub gap_credit : (port report_e).credita ≡ negsuc 65999999
   -- a frame is reported once: behind (e)'s first report its last 12 bytes hold the wire, and nothing is reported when they have passed
-  pub gap_eleven : answer (port report_e) (advance 11) ≡ passed 11 Nothing
+  pub gap_eleven : answer (port report_e) (advance 11) ≡ passed 11 None
   pub gap_held : (port (report_e ++ advance 11 ∷ [])).wire ≡ Sending (record { source = 0; size = 100; taken = 0 }) 1
-  pub gap_last : answer (port (report_e ++ advance 11 ∷ [])) (advance 1) ≡ passed 1 Nothing
+  pub gap_last : answer (port (report_e ++ advance 11 ∷ [])) (advance 1) ≡ passed 1 None
   pub gap_free : (port (report_e ++ advance 11 ∷ advance 1 ∷ [])).wire ≡ Free
   -- one advance runs past the end of a reported frame and on to the next report: 12 byte-times of the gap, 300 of a free wire while the credit is below 0, 288 of row 1's frame; (d)'s second, 12 and 88
-  pub gap_through : answer (port (report_e ++ offer 1 258 ∷ [])) (advance 1000) ≡ passed 600 (Reported (record { source = 1; size = 300; taken = 88 }))
+  pub gap_through : answer (port (report_e ++ offer 1 258 ∷ [])) (advance 1000) ≡ passed 600 (Some (record { source = 1; size = 300; taken = 88 }))
   -- the count goes by the residence: with 18 bytes more of best effort the bound of C-12's row is four periods, its deadline, and the row may have five frames in the port
   pub count_bound : bound (often_with 338) often_row ≡ 480
   pub count_residence : residence (often_with 338) often_row ≡ 492
@@ -211,7 +210,7 @@ pub record Facts : Type 0 where
   -- a frame may be older than the bound that its row had when it was taken: the bound of row 1 was 492 and is 1950 when a row of B has joined, and its frame is reported after 1698
   pub raised_before : (fresh small).bounds ≡ 492 ∷ 492 ∷ 492 ∷ []
   pub raised_after : (played (fresh small) overtaken).bounds ≡ 1950 ∷ 1950 ∷ 9922 ∷ 6520 ∷ []
-  pub raised_report : answer (played (fresh small) overtaken) (advance 5000) ≡ passed 84 (Reported (record { source = 1; size = 84; taken = 0 }))
+  pub raised_report : answer (played (fresh small) overtaken) (advance 5000) ≡ passed 84 (Some (record { source = 1; size = 84; taken = 0 }))
   pub raised_clock : (after (played (fresh small) overtaken) (advance 5000)).clock ≡ 1698
   -- a leave asks for an empty port with both credits 0; the last row of a class stays
   pub leave_wire : answer (port report_e) (leave 0) ≡ denied 21 0
@@ -232,7 +231,7 @@ pub record Facts : Type 0 where
   pub tag_shares : map share_of tagged.rows ≡ 6784 ∷ 2688 ∷ []
   pub tag_accepts : opening tagged ≡ accepted
   -- a frame that is offered to it has its wire size
-  pub tag_report : answer (played (fresh tagged) (offer 0 58 ∷ [])) (advance 5000) ≡ passed 94 (Reported (record { source = 0; size = 106; taken = 0 }))
+  pub tag_report : answer (played (fresh tagged) (offer 0 58 ∷ [])) (advance 5000) ≡ passed 94 (Some (record { source = 0; size = 106; taken = 0 }))
   -- behind the letters of AVB1 the same bytes are refused with 4, since bit 4 stands, and behind other letters with 2; bits 5 and 6 are 4 in AVB2 too
   pub tag_first : (read_file (set tagged_bytes 3 0x31)).outcome ≡ refused 4 15
   pub tag_letters : map (λ l. (read_file (set tagged_bytes 3 l)).outcome) (0x30 ∷ 0x33 ∷ []) ≡ refused 2 0 ∷ refused 2 0 ∷ []

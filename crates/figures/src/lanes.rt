@@ -6,7 +6,7 @@ ghost use Rattle.figures.specs.Steps.{Small, slopes_by, lane_a, lane_b, Modest};
 
 use crate::{Figures, Lane};
 use table::Header;
-use table::quotient::{ceil_div, larger};
+use table::quotient::ceil_div;
 use table::ranges::MOST_SLOPE;
 use table::wire::{D, wire_size};
 
@@ -14,22 +14,15 @@ use table::wire::{D, wire_size};
 fn used_ok(idle: u32, members: u64) -> bool
     ensures { result ≡ same_test (eqb idle 0) (eqb members 0) }
 {
-    if idle == 0 {
-        return members == 0;
-    }
-    members != 0
+    (idle == 0) == (members == 0)
 }
 
 pub fn slopes_ok(h: Header, a: Figures, b: Figures) -> bool
     ensures { result ≡ slopes_by h a b }
 {
-    if !used_ok(h.idlea, a.members) {
-        return false;
-    }
-    if !used_ok(h.idleb, b.members) {
-        return false;
-    }
-    h.idlea as u64 + h.idleb as u64 <= MOST_SLOPE as u64
+    used_ok(h.idlea, a.members)
+        && used_ok(h.idleb, b.members)
+        && u64::from(h.idlea) + u64::from(h.idleb) <= u64::from(MOST_SLOPE)
 }
 
 // Class A waits for the largest frame of B or of best effort.
@@ -40,12 +33,11 @@ pub fn lane_a(h: Header, a: Figures, b: Figures) -> Lane
     ensures value { result ≡ lane_a h a b }
     ensures modest { Modest result }
 {
-    let best = wire_size(h.payload);
     Lane {
-        idle: h.idlea as u64,
+        idle: u64::from(h.idlea),
         largest: a.largest,
         total: a.total,
-        blocking: larger(b.largest, best),
+        blocking: b.largest.max(wire_size(h.payload)),
     }
 }
 
@@ -58,11 +50,10 @@ pub fn lane_b(h: Header, a: Figures, b: Figures) -> Lane
     ensures value { result ≡ lane_b h a b }
     ensures modest { Modest result }
 {
-    let best = wire_size(h.payload);
-    let ia = h.idlea as u64;
-    let saved = larger(D * best, ia * b.largest);
+    let ia = u64::from(h.idlea);
+    let saved = (D * wire_size(h.payload)).max(ia * b.largest);
     Lane {
-        idle: h.idleb as u64,
+        idle: u64::from(h.idleb),
         largest: b.largest,
         total: b.total,
         blocking: a.largest + ceil_div(saved, D - ia),

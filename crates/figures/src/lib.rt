@@ -22,3 +22,10 @@ pub struct Lane {
     pub total: u64,
     pub blocking: u64,
 }
+
+// The numbers of both classes.
+#[derive(Clone, Copy)]
+pub struct BothLanes {
+    pub a: Lane,
+    pub b: Lane,
+}

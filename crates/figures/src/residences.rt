@@ -6,8 +6,7 @@ ghost use Rattle.figures.specs.Parts.{part, until_report};
 ghost use Rattle.figures.specs.Lanes.{pick_lane, residence_with, modest, residence_by};
 ghost use Rattle.figures.specs.Steps.{Modest, Ready, time_by};
 
-use crate::Lane;
-use table::classes::same_class;
+use crate::{BothLanes, Lane};
 use table::quotient::ceil_div;
 use table::ranges::MOST_SLOPE;
 use table::rows::is_there;
@@ -17,12 +16,12 @@ use table::{Class, Row};
 // No number of a class that an accepted table has is as large.
 const MODEST: u64 = 1_099_511_627_776;
 
-fn lane(class: Class, a: Lane, b: Lane) -> Lane
-    ensures { result ≡ pick_lane class a b }
+fn lane(class: Class, lanes: BothLanes) -> Lane
+    ensures { result ≡ pick_lane class lanes.a lanes.b }
 {
     match class {
-        Class::A => a,
-        Class::B => b,
+        Class::A => lanes.a,
+        Class::B => lanes.b,
     }
 }
 
@@ -45,10 +44,7 @@ pub fn row_time(row: Row, a: Lane, b: Lane) -> u64
     if !is_there(row) {
         return 0;
     }
-    let of = row.class;
-    let l = lane(of, a, b);
-    let c = size(row);
-    row_residence(c, l)
+    row_residence(size(row), lane(row.class, BothLanes { a, b }))
 }
 
 // What a row adds to the frames that a class may have in the port: its residence divided by its period, rounded up. That is 1 where the residence is within the period.
@@ -57,62 +53,46 @@ pub fn most_of(class: Class, row: Row, residence: u64) -> u64
     ensures value { result ≡ part class (λ x. ceil_div residence (period_of x)) row }
     ensures small { result ≤ residence }
 {
-    let of = row.class;
-    if !same_class(class, of) {
-        return 0;
-    }
-    if !is_there(row) {
+    if class != row.class || !is_there(row) {
         return 0;
     }
     let p = period(row);
     if residence <= p {
-        return 1;
+        1
+    } else {
+        ceil_div(residence, p)
     }
-    ceil_div(residence, p)
 }
 
 // The numbers of a class are small, and it has an idle slope.
+#[tactic(auto, unfolding(crate::specs::Lanes::modest))]
 fn is_modest(l: Lane) -> bool
     ensures { result ≡ modest l }
 {
-    if l.idle < 1 {
-        return false;
-    }
-    if (MOST_SLOPE as u64) < l.idle {
-        return false;
-    }
-    if MODEST < l.largest {
-        return false;
-    }
-    if MODEST < l.total {
-        return false;
-    }
-    l.blocking <= MODEST
+    1 <= l.idle
+        && l.idle <= u64::from(MOST_SLOPE)
+        && l.largest <= MODEST
+        && l.total <= MODEST
+        && l.blocking <= MODEST
 }
 
 // A row's residence, by the classes of an accepted table that has it; 0 by numbers that are not small, or by a sum below the row's wire size.
-pub fn residence(row: Row, a: Lane, b: Lane) -> u64
-    ensures { result ≡ residence_by a b row }
+#[tactic(auto, unfolding(crate::specs::Lanes::residence_by))]
+pub fn residence(row: Row, lanes: BothLanes) -> u64
+    ensures { result ≡ residence_by lanes.a lanes.b row }
 {
-    let of = row.class;
-    let l = lane(of, a, b);
+    let l = lane(row.class, lanes);
     let c = size(row);
-    if !is_modest(l) {
-        return 0;
+    if is_modest(l) && c <= l.total {
+        row_residence(c, l)
+    } else {
+        0
     }
-    if l.total < c {
-        return 0;
-    }
-    row_residence(c, l)
 }
 
 // A row's bound, from its residence.
 pub fn bound_of(residence: u64) -> u64
     ensures { result ≡ until_report residence }
 {
-    let left = LEFT_AT_REPORT as u64;
-    if residence < left {
-        return 0;
-    }
-    residence - left
+    residence.saturating_sub(u64::from(LEFT_AT_REPORT))
 }

@@ -4,8 +4,6 @@ ghost use Rattle.figures.specs.Parts.{passes_by};
 ghost use Rattle.figures.specs.Steps.{joined, Small, Grown};
 
 use crate::Figures;
-use table::classes::same_class;
-use table::quotient::larger;
 use table::ranges::row_ok;
 use table::rows::is_there;
 use table::wire::{share, size};
@@ -15,10 +13,7 @@ use table::{Class, Row};
 pub fn row_passes(row: Row, gaps: bool) -> bool
     ensures { result ≡ passes_by gaps row }
 {
-    if is_there(row) {
-        return row_ok(row);
-    }
-    gaps
+    if is_there(row) { row_ok(row) } else { gaps }
 }
 
 // The figures with one row more, if it counts in the class.
@@ -27,17 +22,13 @@ pub fn with_row(f: Figures, class: Class, row: Row) -> Figures
     ensures value { result ≡ joined f class row }
     ensures grown { Grown f result }
 {
-    let of = row.class;
-    if !same_class(class, of) {
-        return f;
-    }
-    if !is_there(row) {
+    if class != row.class || !is_there(row) {
         return f;
     }
     let c = size(row);
     Figures {
         members: f.members + 1,
-        largest: larger(f.largest, c),
+        largest: f.largest.max(c),
         total: f.total + c,
         shares: f.shares + share(row),
     }

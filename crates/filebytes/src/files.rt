@@ -1,13 +1,20 @@
 // The bounds of a file's table, and a file read and written again.
-ghost use Rattle.std.specs.Prelude.{◌≤◌, ◌≡◌, length};
+ghost use Rattle.std.specs.Prelude.{◌≤◌, ◌≡◌, true, false, length, MatchOption, MatchResult};
+ghost use Rattle.table.specs.Rows.{contents};
+ghost use Rattle.table.specs.Ranges.{within};
 ghost use Rattle.table.specs.Checks.{accepted, over};
+ghost use Rattle.planner.specs.Bound.{bounds};
+ghost use Rattle.tablefile.specs.Reading.{unopened_by, read_file};
 ghost use Rattle.words.specs.Words.{flat, word_bytes};
+ghost use Rattle.codes.specs.Codes.{file_check};
 ghost use Rattle.filebytes.specs.Files.{bounds_size, BoundsWritten, edition_by, Rewritten};
 
-use codes::{code, of_file, of_reading, of_writing};
+use codes::{code, of_misread, of_unopened, of_writing};
 use table::ROWS;
-use tablefile::Edition;
-use words::words::put_word;
+use tablefile::{Edition, Unopened};
+use tableread::read::read;
+use tablewrite::write::write;
+use words::words::put_words;
 
 // The bytes of a word for each row.
 const BOUNDS_SIZE: usize = 256;
@@ -17,11 +24,17 @@ fn put_bounds(out: &mut [u8], bounds: [u64; ROWS])
     requires { bounds_size ≤ length out.old }
     ensures { out.new ≡ over accepted (flat word_bytes bounds) out.old }
 {
-    let mut i: usize = 0;
-    while i < ROWS {
-        put_word(out, i, bounds[i]);
-        i += 1;
-    }
+    put_words(out, 0, &bounds);
+}
+
+// The 32 bounds of a table file, or why it is not opened.
+fn file_bounds(file: &[u8]) -> Result<[u64; ROWS], Unopened>
+    ensures { MatchResult result (λ bs. (file_check file.now ≡ accepted) × (bs ≡ bounds (contents (read_file file.now).table)))
+        (λ e. file_check file.now ≡ unopened_by e) }
+{
+    let l = read(file)?;
+    let bounds = planner::bounds(l.table)?;
+    Ok(bounds)
 }
 
 // The 32 bounds of a table file, a word each. At a refusal no byte is written.
@@ -31,48 +44,36 @@ pub fn bounds(file: &[u8], out: &mut [u8]) -> u64
     if out.len() < BOUNDS_SIZE {
         return code(103, 0);
     }
-    let l = tableread::read::read(file);
-    let t = l.table;
-    let sheet = planner::bounds(t);
-    let answer = l.answer;
-    let verdict = sheet.verdict;
-    let c = of_file(answer, verdict);
-    if c != 0 {
-        return c;
+    match file_bounds(file) {
+        Ok(bounds) => {
+            put_bounds(out, bounds);
+            0
+        }
+        Err(e) => of_unopened(e),
     }
-    let bounds = sheet.bounds;
-    put_bounds(out, bounds);
-    c
 }
 
-// The editions by number: 2 is AVB2, and any other stands for AVB1.
-fn edition_by(number: u64) -> Edition
-    ensures { result ≡ edition_by number }
+// The edition of a number, if there is one.
+fn edition_by(number: u64) -> Option<Edition>
+    ensures { MatchOption result (within 1 2 number ≡ false)
+        (λ e. (within 1 2 number ≡ true) × (e ≡ edition_by number)) }
 {
-    if number == 2 {
-        return Edition::Avb2;
+    match number {
+        1 => Some(Edition::Avb1),
+        2 => Some(Edition::Avb2),
+        _ => None,
     }
-    Edition::Avb1
 }
 
 // A table file of either edition, read, and written again in the edition of a number. At a refusal no byte is written.
 pub fn rewrite(file: &[u8], number: u64, out: &mut [u8]) -> u64
     ensures { Rewritten file.now number out.old out.new result }
 {
-    if number < 1 {
+    let Some(edition) = edition_by(number) else {
         return code(104, 0);
+    };
+    match read(file) {
+        Ok(l) => of_writing(write(edition, l.table, out)),
+        Err(m) => of_misread(m),
     }
-    if 2 < number {
-        return code(104, 0);
-    }
-    let l = tableread::read::read(file);
-    let answer = l.answer;
-    let c = of_reading(answer);
-    if c != 0 {
-        return c;
-    }
-    let t = l.table;
-    let edition = edition_by(number);
-    let w = tablewrite::write::write(edition, t, out);
-    of_writing(w)
 }

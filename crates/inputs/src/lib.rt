@@ -21,6 +21,7 @@ pub fn filled<R: Read>(from: &mut R, into: &mut [u8]) -> Intake
     ensures end { OnOk result.outcome (result.count < length into.new → IsAtEnd (R.remaining from.new)) }
 {
     let mut count = 0;
+    // Stays a `while`: how far a turn goes is what its read gives.
     while count < into.len() {
         match from.read(&mut into[count..]) {
             Ok(0) => {

@@ -1,4 +1,5 @@
 -- An advance: byte-times until a frame is reported keep the invariant and report in time.
+use Rattle.std.specs.Prelude.{Option, Some, None}
 use Prim.Native.Nat.{ℕ, zero, suc, ◌+◌, ◌≤◌, ◌<◌}
 use mathlib.Core.Bool.{Bool, true, false, cond}
 use mathlib.Core.Path.{◌≡◌, refl, sym, ◌∙◌, ap, subst}
@@ -11,8 +12,6 @@ use Rattle.planner.specs.Bound.{bound}
 use Rattle.machine.specs.declared.Frame.{Frame}
 use Rattle.machine.specs.declared.Wire.{Wire}
 use Rattle.machine.specs.declared.Wire.TheVariants.{Free, Sending}
-use Rattle.machine.specs.declared.Ended.{Ended}
-use Rattle.machine.specs.declared.Ended.TheVariants.{Reported, Nothing}
 use Rattle.machine.specs.State.{State}
 use Rattle.machine.specs.Time.{ready, send_of, send_best, start_on, start, byte_time, ends_in, Progress, further, progress}
 use Rattle.machine.specs.Limits.{last_clock}
@@ -60,7 +59,7 @@ byte_holds : (s : State) → Holds s → s.clock < last_clock → Holds (byte_ti
 unfolding byte_time
 byte_holds s h l = byte_keeps (start s) h.u (starts s h.u h.inv) (rw (start_same s).clock l)
 
-byte_ends : (s : State) → Holds s → (f : Frame) → ends_in s ≡ Reported f → InUse s.table f.source → (byte_time s).clock ≤ f.taken + bound s.table (row_at s.table f.source)
+byte_ends : (s : State) → Holds s → (f : Frame) → ends_in s ≡ Some f → InUse s.table f.source → (byte_time s).clock ≤ f.taken + bound s.table (row_at s.table f.source)
 unfolding ends_in
 byte_ends s h f e l =
     let st = starts s h.u h.inv in
@@ -69,7 +68,7 @@ byte_ends s h f e l =
     rw (byte_clock s) (rw (same.clock, same.table) at due)
 
 -- the frame that is reported was taken before: a byte of it has passed since
-byte_after : (s : State) → Holds s → (f : Frame) → ends_in s ≡ Reported f → f.taken < (byte_time s).clock
+byte_after : (s : State) → Holds s → (f : Frame) → ends_in s ≡ Some f → f.taken < (byte_time s).clock
 unfolding ends_in
 byte_after s h f e =
     let st = starts s h.u h.inv in
@@ -77,9 +76,9 @@ byte_after s h f e =
     rw (byte_clock s) (omega (arith, facts.2, (start_same s).clock))
 
 -- ---- an advance: no more byte-times pass than it asks for
-further_most : (n : ℕ) (p : Progress) (e : Ended) → p.passed ≤ n → (further e p).passed ≤ suc n
-further_most n p (Reported f) h = omega arith
-further_most n p Nothing h = omega arith
+further_most : (n : ℕ) (p : Progress) (e : Option Frame) → p.passed ≤ n → (further e p).passed ≤ suc n
+further_most n p (Some f) h = omega arith
+further_most n p None h = omega arith
 
 pub passed_most : (n : ℕ) (s : State) → (progress n s).passed ≤ n
 unfolding progress
@@ -91,12 +90,12 @@ pub record Reached (s : State) (p : Progress) : Type 0 where
   pub table : p.state.table ≡ s.table
   pub last : p.state.last ≡ s.last
   pub clock : p.state.clock ≡ s.clock + p.passed
-  pub in_time : (f : Frame) → p.ended ≡ Reported f → InUse s.table f.source → p.state.clock ≤ f.taken + bound s.table (row_at s.table f.source)
-  pub taken_before : (f : Frame) → p.ended ≡ Reported f → f.taken < p.state.clock
+  pub in_time : (f : Frame) → p.ended ≡ Some f → InUse s.table f.source → p.state.clock ≤ f.taken + bound s.table (row_at s.table f.source)
+  pub taken_before : (f : Frame) → p.ended ≡ Some f → f.taken < p.state.clock
 
-go_on : (s : State) (n : ℕ) (p : Progress) (e : Ended) → s.clock + suc n ≤ last_clock → p.passed ≤ n → Reached s p → Reached s (further e p)
-go_on s n p (Reported f) l m r = r
-go_on s n p Nothing l m r =
+go_on : (s : State) (n : ℕ) (p : Progress) (e : Option Frame) → s.clock + suc n ≤ last_clock → p.passed ≤ n → Reached s p → Reached s (further e p)
+go_on s n p (Some f) l m r = r
+go_on s n p None l m r =
     record {
       holds = byte_holds p.state r.holds (omega (arith, r.clock));
       table = byte_table p.state ∙ r.table;
@@ -111,6 +110,6 @@ unfolding progress
 advances s zero h l =
     record { holds = h; table = refl; last = refl; clock = sym (add-zero s.clock); in_time = λ f e k. absurd (no_report e); taken_before = λ f e. absurd (no_report e) }
   where
-    no_report : {f : Frame} → Nothing ≡ Reported f → ⊥
+    no_report : {f : Frame} → None ≡ Some f → ⊥
     no_report e = let z : ◌≡◌ {A = ℕ} 0 1 = cc in omega arith
 advances s (suc n) h l = go_on s n (progress n s) (progress n s).ended l (passed_most n s) (advances s n h (omega arith))

@@ -1,17 +1,14 @@
 -- Different answers have different numbers or values: what an answer stands for fixes the answer.
+use Rattle.std.specs.Prelude.{None, Result, Ok, Err}
 use Prim.Native.Nat.{ℕ}
 use mathlib.Core.Bool.{cond}
 use mathlib.Core.Path.{◌≡◌, refl, sym, ◌∙◌, ap}
 use lib.Dec.{eqb}
 use Rattle.table.specs.declared.Refusal.TheVariants.{RowCount, Value, Slopes, Shares, Deadline, Frames}
 use Rattle.table.proofs.Laws.{refusal_by, refusal_said}
-use Rattle.machine.specs.declared.Ended.TheVariants.{Nothing}
 use Rattle.machine.specs.declared.Denial.{Denial}
 use Rattle.machine.specs.declared.Denial.TheVariants.{Broken, NoSuchRow, Payload, Early, BestEffortFull, TooManySteps, PastLastClock, InUse, Busy, Misfit}
-use Rattle.machine.specs.declared.Offer.{Offer}
-use Rattle.machine.specs.declared.Offer.TheVariants as offers
-use Rattle.machine.specs.declared.Advance.{Advance}
-use Rattle.machine.specs.declared.Advance.TheVariants as advances
+use Rattle.machine.specs.declared.Passed.{Passed}
 use Rattle.machine.specs.Calls.{Answer, taken, passed, denied, number_of, place_of, offer_answer, advance_answer}
 
 -- what an answer says was answered
@@ -36,26 +33,26 @@ denied_said (Misfit (Shares c)) = ap Misfit (refusal_said (Shares c))
 denied_said (Misfit (Deadline k)) = refl
 denied_said (Misfit (Frames c)) = ap Misfit (refusal_said (Frames c))
 
-abbrev offer_by : Answer → Offer
-offer_by taken = offers.Taken
-offer_by (passed n e) = offers.Taken
-offer_by (denied n p) = offers.Refused (denial_by n p)
+abbrev offer_by : Answer → Result (Unit {0}) Denial
+offer_by taken = Ok tt
+offer_by (passed n e) = Ok tt
+offer_by (denied n p) = Err (denial_by n p)
 
-offer_said : (o : Offer) → offer_by (offer_answer o) ≡ o
-offer_said offers.Taken = refl
-offer_said (offers.Refused d) = ap offers.Refused (denied_said d)
+offer_said : (o : Result (Unit {0}) Denial) → offer_by (offer_answer o) ≡ o
+offer_said (Ok u) = refl
+offer_said (Err d) = ap Err (denied_said d)
 
-abbrev advance_by : Answer → Advance
-advance_by taken = advances.Passed 0 Nothing
-advance_by (passed n e) = advances.Passed n e
-advance_by (denied n p) = advances.Refused (denial_by n p)
+abbrev advance_by : Answer → Result Passed Denial
+advance_by taken = Ok (record { count = 0; ended = None })
+advance_by (passed n e) = Ok (record { count = n; ended = e })
+advance_by (denied n p) = Err (denial_by n p)
 
-advance_said : (a : Advance) → advance_by (advance_answer a) ≡ a
-advance_said (advances.Passed n e) = refl
-advance_said (advances.Refused d) = ap advances.Refused (denied_said d)
+advance_said : (a : Result Passed Denial) → advance_by (advance_answer a) ≡ a
+advance_said (Ok x) = refl
+advance_said (Err d) = ap Err (denied_said d)
 
-pub same_offer : (o p : Offer) → offer_answer o ≡ offer_answer p → o ≡ p
+pub same_offer : (o p : Result (Unit {0}) Denial) → offer_answer o ≡ offer_answer p → o ≡ p
 same_offer o p e = sym (offer_said o) ∙ ap offer_by e ∙ offer_said p
 
-pub same_advance : (a b : Advance) → advance_answer a ≡ advance_answer b → a ≡ b
+pub same_advance : (a b : Result Passed Denial) → advance_answer a ≡ advance_answer b → a ≡ b
 same_advance a b e = sym (advance_said a) ∙ ap advance_by e ∙ advance_said b

@@ -1,4 +1,5 @@
 -- A byte passes: steps 2, 3 and 4 keep the invariant, and a row's frame that is reported is so within its bound.
+use Rattle.std.specs.Prelude.{Some, None}
 use Prim.Native.Nat.{ℕ, zero, suc, ◌+◌, ◌-◌, ◌*◌, ◌≤◌, ◌<◌}
 use mathlib.Core.Bool.{Bool, true, false, cond}
 use mathlib.Core.List.{List, [], ◌∷◌, ◌++◌}
@@ -20,7 +21,6 @@ use Rattle.planner.proofs.Laws as law
 use Rattle.machine.specs.declared.Frame.{Frame}
 use Rattle.machine.specs.declared.Wire.{Wire}
 use Rattle.machine.specs.declared.Wire.TheVariants.{Free, Sending}
-use Rattle.machine.specs.declared.Ended.TheVariants.{Reported, Nothing}
 use Rattle.machine.specs.Limits.{last_clock}
 use Rattle.machine.specs.State.{Instant, never, at, State, credit, queue}
 use Rattle.machine.specs.Time.{Owner, shaped, unshaped, owner, owns, on_wire, earned, earn, pass, settled, settle, wire_after, reported_in}
@@ -151,12 +151,12 @@ module _ (s : State) (u : Class → ℕ) (st : Started s u) where
   byte_keeps h = record { u = v; inv = record { always = byte_always h; timed = byte_timed } }
 
 -- ---- line 9 at the report: a row's frame that is reported is no older than its bound
-pub reported_frame : (w : Wire) (f : Frame) → reported_in w ≡ Reported f → w ≡ Sending f (suc left_at_report)
+pub reported_frame : (w : Wire) (f : Frame) → reported_in w ≡ Some f → w ≡ Sending f (suc left_at_report)
 unfolding reported_in
 reported_frame Free f e = let z : ◌≡◌ {A = ℕ} 0 1 = cc in absurd (omega arith)
 reported_frame (Sending g l) f e = go (eqb l (suc left_at_report)) refl e
   where
-    go : (b : Bool) → eqb l (suc left_at_report) ≡ b → cond b (Reported g) Nothing ≡ Reported f → Sending g l ≡ Sending f (suc left_at_report)
+    go : (b : Bool) → eqb l (suc left_at_report) ≡ b → cond b (Some g) None ≡ Some f → Sending g l ≡ Sending f (suc left_at_report)
     go true q p = let same : g ≡ f = cc in rw (same, eqb-true l (suc left_at_report) q) refl
     go false q p = let z : ◌≡◌ {A = ℕ} 0 1 = cc in absurd (omega arith)
 
@@ -176,7 +176,7 @@ module _ (s : State) (u : Class → ℕ) (i : Inv s u) (f : Frame) (l : ℕ) (w 
   row_due A own = due_look A own
   row_due B own = due_look B own
 
-pub ends_in_time : (s : State) (u : Class → ℕ) → Inv s u → (f : Frame) → reported_in s.wire ≡ Reported f → InUse s.table f.source → suc s.clock ≤ f.taken + bound s.table (row_at s.table f.source)
+pub ends_in_time : (s : State) (u : Class → ℕ) → Inv s u → (f : Frame) → reported_in s.wire ≡ Some f → InUse s.table f.source → suc s.clock ≤ f.taken + bound s.table (row_at s.table f.source)
 ends_in_time s u i f e h =
     let w = reported_frame s.wire f e in
     let own = named_owner s.table f h in

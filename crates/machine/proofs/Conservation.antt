@@ -1,4 +1,5 @@
 -- How often a frame with a given name is in the port and not reported: an offer adds it, a start moves it, a report takes it out, nothing else touches it.
+use Rattle.std.specs.Prelude.{Option, Some, None}
 use Prim.Native.Nat.{ℕ, zero, suc, ◌+◌, ◌≤◌}
 use mathlib.Core.Bool.{Bool, true, false, cond}
 use mathlib.Core.List.{List, [], ◌∷◌, ◌++◌}
@@ -13,8 +14,6 @@ use Rattle.table.specs.Rows.{row_at}
 use Rattle.machine.specs.declared.Frame.{Frame}
 use Rattle.machine.specs.declared.Wire.{Wire}
 use Rattle.machine.specs.declared.Wire.TheVariants.{Free, Sending}
-use Rattle.machine.specs.declared.Ended.{Ended}
-use Rattle.machine.specs.declared.Ended.TheVariants.{Reported, Nothing}
 use Rattle.machine.specs.State.{State}
 use Rattle.machine.specs.Time.{ready, head_out, behind_head, send_of, send_best, start_on, start, wire_after, reported_in, byte_time, ends_in, Progress, further, progress}
 use Rattle.machine.specs.Run.{count}
@@ -35,9 +34,9 @@ module _ (is : Frame → Bool) where
   on_wire Free = 0
   on_wire (Sending f l) = cond (ltb left_at_report l) (count (is f)) 0
 
-  abbrev pub ended : Ended → ℕ
-  ended Nothing = 0
-  ended (Reported f) = count (is f)
+  abbrev pub ended : Option Frame → ℕ
+  ended None = 0
+  ended (Some f) = count (is f)
 
   abbrev pub in_port_lem : State → ℕ
   in_port_lem s = among s.a + among s.b + among s.best + on_wire s.wire
@@ -65,10 +64,10 @@ module _ (is : Frame → Bool) where
       by_wire (Sending f l) e = refl
 
   -- in the byte-time of its report a frame is counted among the reports and no longer on the wire
-  byte_reports : (f : Frame) (l : ℕ) → cond (ltb left_at_report l) (count (is f)) 0 + ended (cond (eqb (suc l) (suc left_at_report)) (Reported f) Nothing) ≡ cond (ltb left_at_report (suc l)) (count (is f)) 0
+  byte_reports : (f : Frame) (l : ℕ) → cond (ltb left_at_report l) (count (is f)) 0 + ended (cond (eqb (suc l) (suc left_at_report)) (Some f) None) ≡ cond (ltb left_at_report (suc l)) (count (is f)) 0
   byte_reports f l = go (ltb left_at_report l) (eqb (suc l) (suc left_at_report)) refl refl
     where
-      go : (x y : Bool) → ltb left_at_report l ≡ x → eqb (suc l) (suc left_at_report) ≡ y → cond x (count (is f)) 0 + ended (cond y (Reported f) Nothing) ≡ cond (ltb left_at_report (suc l)) (count (is f)) 0
+      go : (x y : Bool) → ltb left_at_report l ≡ x → eqb (suc l) (suc left_at_report) ≡ y → cond x (count (is f)) 0 + ended (cond y (Some f) None) ≡ cond (ltb left_at_report (suc l)) (count (is f)) 0
       go true true e q = absurd (omega (arith, ltb-true left_at_report l e, eqb-true (suc l) (suc left_at_report) q))
       go true false e q = rw (lt-ltb left_at_report (suc l) (omega (arith, ltb-true left_at_report l e))) (omega arith)
       go false true e q = rw (lt-ltb left_at_report (suc l) (omega (arith, eqb-true (suc l) (suc left_at_report) q))) (omega arith)
@@ -88,9 +87,9 @@ module _ (is : Frame → Bool) where
   unfolding byte_time ends_in
   byte_keeps s p = omega (arith, start_keeps s p, wire_keeps (start s).wire)
 
-  further_keeps : (s : State) (p : Progress) (e : Ended) → p.ended ≡ e → EachFrame Large p.state → in_port_lem p.state + ended e ≡ in_port_lem s → in_port_lem (further e p).state + ended (further e p).ended ≡ in_port_lem s
-  further_keeps s p (Reported f) q g h = rw q h
-  further_keeps s p Nothing q g h = omega (arith, byte_keeps p.state g)
+  further_keeps : (s : State) (p : Progress) (e : Option Frame) → p.ended ≡ e → EachFrame Large p.state → in_port_lem p.state + ended e ≡ in_port_lem s → in_port_lem (further e p).state + ended (further e p).ended ≡ in_port_lem s
+  further_keeps s p (Some f) q g h = rw q h
+  further_keeps s p None q g h = omega (arith, byte_keeps p.state g)
 
   pub advance_keeps : (s : State) → EachFrame Large s → (n : ℕ) → in_port_lem (progress n s).state + ended (progress n s).ended ≡ in_port_lem s
   unfolding progress

@@ -1,4 +1,5 @@
 -- No byte-time makes a frame or changes one: what holds of every frame in a port holds of every frame afterwards, and of the frame that is reported.
+use Rattle.std.specs.Prelude.{Option, Some, None}
 use Prim.Native.Nat.{ℕ, zero, suc}
 use mathlib.Core.Bool.{Bool, true, false, cond}
 use mathlib.Core.List.{List, [], ◌∷◌}
@@ -8,8 +9,6 @@ use Rattle.table.specs.Limits.{left_at_report}
 use Rattle.machine.specs.declared.Frame.{Frame}
 use Rattle.machine.specs.declared.Wire.{Wire}
 use Rattle.machine.specs.declared.Wire.TheVariants.{Free, Sending}
-use Rattle.machine.specs.declared.Ended.{Ended}
-use Rattle.machine.specs.declared.Ended.TheVariants.{Reported, Nothing}
 use Rattle.machine.specs.State.{State}
 use Rattle.machine.specs.Time.{ready, head_out, behind_head, send_of, send_best, start_on, start, wire_after, reported_in, byte_time, ends_in, Progress, further, progress}
 use Rattle.machine.proofs.OneClass.{All}
@@ -19,9 +18,9 @@ module _ (P : Frame → Type 0) where
   OnWire Free = Unit {0}
   OnWire (Sending f l) = P f
 
-  abbrev pub OfEnded : Ended → Type 0
-  OfEnded Nothing = Unit {0}
-  OfEnded (Reported f) = P f
+  abbrev pub OfEnded : Option Frame → Type 0
+  OfEnded None = Unit {0}
+  OfEnded (Some f) = P f
 
   pub record EachFrame (s : State) : Type 0 where
     pub a : All P s.a
@@ -67,7 +66,7 @@ module _ (P : Frame → Type 0) where
   reported_each Free p = tt
   reported_each (Sending f l) p = go (eqb l (suc left_at_report))
     where
-      go : (b : Bool) → OfEnded (cond b (Reported f) Nothing)
+      go : (b : Bool) → OfEnded (cond b (Some f) None)
       go true = p
       go false = tt
 
@@ -75,9 +74,9 @@ module _ (P : Frame → Type 0) where
   unfolding ends_in
   ends_each s p = reported_each (start s).wire (start_each s p).wire
 
-  further_each : (p : Progress) (e : Ended) → EachFrame p.state × OfEnded p.ended → EachFrame (further e p).state × OfEnded (further e p).ended
-  further_each p (Reported f) q = q
-  further_each p Nothing q = (byte_each p.state q.0, ends_each p.state q.0)
+  further_each : (p : Progress) (e : Option Frame) → EachFrame p.state × OfEnded p.ended → EachFrame (further e p).state × OfEnded (further e p).ended
+  further_each p (Some f) q = q
+  further_each p None q = (byte_each p.state q.0, ends_each p.state q.0)
 
   pub progress_each : (s : State) → EachFrame s → (n : ℕ) → EachFrame (progress n s).state × OfEnded (progress n s).ended
   unfolding progress

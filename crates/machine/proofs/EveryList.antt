@@ -5,8 +5,8 @@ use mathlib.Core.List.{List, [], ◌∷◌, ◌++◌, append-nil}
 use mathlib.Core.Path.{◌≡◌, refl, sym, ◌∙◌, ap}
 use native.Mathlib.Omega.{arith}
 use lib.ListN.{length, take, replicate}
+use Rattle.std.specs.Prelude.{Ok}
 use Rattle.table.specs.declared.Table.{Table}
-use Rattle.table.specs.declared.Verdict.TheVariants.{Accepted}
 use Rattle.table.specs.Limits.{most_rows}
 use Rattle.table.specs.Rows.{no_row, Contents, rows_of, contents, with_row, without_row}
 use Rattle.table.specs.Checks.{accepted}
@@ -102,7 +102,7 @@ module _ (t : Table) (ok : opening (contents t) ≡ accepted) where
 
   none : RunsTo []
   unfolding RunsTo after_calls
-  none p v e = opened {r = record { verdict = Accepted; port = p }} (record { verdict = sym ok; port = v; table = e }) ok
+  none p v e = opened {r = record { answer = Ok tt; port = p }} (record { verdict = sym ok; port = v; table = e }) ok
 
   shown_table : (p : Port) → (view p).table ≡ contents p.table
   unfolding view

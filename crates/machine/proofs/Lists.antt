@@ -1,4 +1,5 @@
 -- What holds along a list of calls, by induction on the list: the invariant, the clock, the last instants, conservation, once, in time.
+use Rattle.std.specs.Prelude.{Option, Some, None}
 use Prim.Native.Nat.{ℕ, zero, suc, ◌+◌, ◌-◌, ◌≤◌, ◌<◌}
 use mathlib.Core.Bool.{Bool, true, false, cond, ◌&&◌}
 use mathlib.Core.List.{List, [], ◌∷◌}
@@ -23,8 +24,6 @@ use Rattle.planner.proofs.Laws as law
 use Rattle.machine.specs.declared.Frame.{Frame}
 use Rattle.machine.specs.declared.Wire.{Wire}
 use Rattle.machine.specs.declared.Wire.TheVariants.{Free, Sending}
-use Rattle.machine.specs.declared.Ended.{Ended}
-use Rattle.machine.specs.declared.Ended.TheVariants.{Reported, Nothing}
 use Rattle.machine.specs.Limits.{last_clock}
 use Rattle.machine.specs.State.{Instant, never, at, State, fresh}
 use Rattle.machine.specs.Time.{Owner, shaped, unshaped, owner, progress}
@@ -239,9 +238,9 @@ module _ (t : Contents) (row inst size : ℕ) where
   same_frame : (s : State) (k p : ℕ) (es : List Event) → s.table ≡ table_of t es → s.clock ≡ clock_of es → row_frame s k p ≡ taken_frame t es k p
   same_frame s k p es e f i = record { source = k; size = size_for (row_at (e i) k) p; taken = f i }
 
-  reported_is : (n : ℕ) (e : Ended) → reported_by row inst size (passed n e) ≡ ended (named row inst size) e
-  reported_is n Nothing = refl
-  reported_is n (Reported f) = refl
+  reported_is : (n : ℕ) (e : Option Frame) → reported_by row inst size (passed n e) ≡ ended (named row inst size) e
+  reported_is n None = refl
+  reported_is n (Some f) = refl
 
   not_best : (f : Frame) → row < 32 → f.source ≡ 32 → count (named row inst size f) ≡ 0
   not_best f h e = rw (ne_eqb f.source row (λ z. omega arith)) refl
@@ -282,9 +281,9 @@ named_is row inst size f e =
 
 -- ---- a frame that was reported was taken before now
 module _ (t : Contents) (ok : opening t ≡ accepted) (row inst size : ℕ) where
-  by_report : {es : List Event} {s : State} (n : ℕ) → Along t es s → s.clock + n ≤ last_clock → (e : Ended) → (progress n s).ended ≡ e → 1 ≤ reported_by row inst size (passed (progress n s).passed e) → inst < (progress n s).passed + clock_of es
-  by_report n w room Nothing e h = absurd (omega arith)
-  by_report {es} {s} n w room (Reported f) e h = go (named row inst size f) refl h
+  by_report : {es : List Event} {s : State} (n : ℕ) → Along t es s → s.clock + n ≤ last_clock → (e : Option Frame) → (progress n s).ended ≡ e → 1 ≤ reported_by row inst size (passed (progress n s).passed e) → inst < (progress n s).passed + clock_of es
+  by_report n w room None e h = absurd (omega arith)
+  by_report {es} {s} n w room (Some f) e h = go (named row inst size f) refl h
     where
       go : (b : Bool) → named row inst size f ≡ b → 1 ≤ count b → inst < (progress n s).passed + clock_of es
       go true q h = let r = advances s n w.holds room in omega (arith, r.taken_before f e, r.clock, w.clock, (named_is row inst size f q).1)

@@ -8,35 +8,31 @@ use lib.ListN.{length, get_or, take, drop, replicate, length-map, length-take, l
 use lib.Seq.{drop-cons, get_or-take, take_at}
 use mir.Val.{Val}
 use denote.Laws.{Is}
+use denote.Param.{number}
 use denote.Struct.Declared as Declared
+use Rattle.std.specs.declared.option.Option.{Option}
+use Rattle.std.specs.declared.option.Option.TheVariants.{None}
 use Rattle.table.specs.declared.Row.{Row}
 use Rattle.table.specs.declared.Table.{Table}
 use Rattle.table.specs.Rows.{no_row, is_there, rows_of, contents}
 use Rattle.table.proofs.Laws as table
 use Rattle.planner.specs.Bound.{bounds_of}
 use Rattle.machine.specs.declared.Frame.{Frame}
-use Rattle.machine.specs.declared.Last.{Last}
 use Rattle.machine.specs.declared.Queue.{Queue}
-use Rattle.machine.specs.declared.BestQueue.{BestQueue}
 use Rattle.machine.specs.declared.Port.{Port}
-use Rattle.machine.specs.Limits.{class_places, best_places}
 use Rattle.machine.specs.State.{never, no_frame, waiting, instant_of, instants_of, kept_of, Places}
 use Rattle.machine.proofs.Instants.{for_length, for_at}
 -- the record itself, and what an unused place may hold
-pub use Rattle.machine.specs.State.{zero_frame, zero_last, Places}
+pub use Rattle.machine.specs.State.{zero_frame, Places}
 -- a byte-time is one on the clock
 pub use Rattle.machine.proofs.Advances.{byte_clock}
 use Rattle.machine.specs.Record.{all_of}
 use Rattle.machine.specs.contracts.Queue as queue
-use Rattle.machine.specs.contracts.BestQueue as best
 use Rattle.machine.specs.contracts.Port as port
 
 -- what owning a queue or a port record tells of its places
-pub queue_places : (q : Queue) (vs : List Val) → Is (Declared.row queue.the_type) q vs → length q.frames ≡ class_places
+pub queue_places : {n : ℕ} (q : Queue n) (vs : List Val) → Is (Declared.row (queue.the_type (number n))) q vs → length q.frames ≡ n
 queue_places q vs p = p.1.1.1.0.1.0.1
-
-pub best_places_lem : (q : BestQueue) (vs : List Val) → Is (Declared.row best.the_type) q vs → length q.frames ≡ best_places
-best_places_lem q vs p = p.1.1.1.0.1.0.1
 
 pub port_places : (p : Port) (vs : List Val) → Is (Declared.row port.the_type) p vs → Places p
 port_places p vs e =
@@ -77,11 +73,11 @@ too_many ok n xs e h =
     sym (all_append ok (take n xs) (replicate (n - length xs) no_frame) (rw (m, e) refl))
 
 -- the instants of a table's numbers, and the bounds that are kept of them
-pub instants_length : (rs : List Row) (last : List Last) → length (instants_of rs last) ≡ length rs
+pub instants_length : (rs : List Row) (last : List (Option ℕ)) → length (instants_of rs last) ≡ length rs
 instants_length rs last = for_length rs (map instant_of last)
 
-pub instant_at_lem : (rs : List Row) (last : List Last) (k : ℕ) → is_there (get_or rs k no_row) ≡ true → get_or (instants_of rs last) k never ≡ instant_of (get_or last k zero_last)
-instant_at_lem rs last k e = for_at rs (map instant_of last) k e ∙ get_or-map instant_of last k zero_last
+pub instant_at_lem : (rs : List Row) (last : List (Option ℕ)) (k : ℕ) → is_there (get_or rs k no_row) ≡ true → get_or (instants_of rs last) k never ≡ instant_of (get_or last k None)
+instant_at_lem rs last k e = for_at rs (map instant_of last) k e ∙ get_or-map instant_of last k None
 
 pub kept_few : (n : ℕ) (bs : List ℕ) → n ≤ length bs → kept_of n bs ≡ take n bs
 unfolding kept_of

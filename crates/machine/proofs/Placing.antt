@@ -6,6 +6,8 @@ use mathlib.Core.Path.{◌≡◌, refl, sym, ◌∙◌, ap}
 use native.Mathlib.Omega.{arith}
 use lib.ListN.{length, take, replicate, length-append, length-take, length-map, length-replicate}
 use lib.Seq.{take-append_seam, take-take}
+use Rattle.std.specs.declared.option.Option.{Option}
+use Rattle.std.specs.declared.option.Option.TheVariants.{None}
 use Rattle.table.specs.declared.Row.{Row}
 use Rattle.table.specs.declared.Table.{Table}
 use Rattle.table.specs.Limits.{most_rows}
@@ -13,9 +15,8 @@ use Rattle.table.specs.Rows.{is_there, Contents, rows_of, contents}
 use Rattle.table.proofs.Laws.{rows_length}
 use Rattle.planner.specs.Bound.{bound, if_there, bounds_of, bounds}
 use Rattle.machine.specs.declared.Frame.{Frame}
-use Rattle.machine.specs.declared.Last.{Last}
 use Rattle.machine.specs.Limits.{class_places, best_places}
-use Rattle.machine.specs.State.{Instant, never, at, zero_frame, zero_last, waiting, instant_of, instants_for, instants_of, kept_of, State, view, placed, last_of, port_of, Placed}
+use Rattle.machine.specs.State.{Instant, never, at, zero_frame, waiting, instant_of, instants_for, instants_of, kept_of, State, view, placed, last_of, port_of, Placed}
 use Rattle.machine.proofs.Instants.{for_length}
 
 module _ {X : Type 0} (z : X) where
@@ -41,17 +42,17 @@ instants_back (never ∷ is) = ap (λ (l : List Instant). never ∷ l) (instants
 instants_back (at k ∷ is) = ap (λ (l : List Instant). at k ∷ l) (instants_back is)
 
 -- of the places only those of numbers count
-for_front : (rs : List Row) (ls : List Last) → instants_of rs ls ≡ instants_of rs (take (length rs) ls)
+for_front : (rs : List Row) (ls : List (Option ℕ)) → instants_of rs ls ≡ instants_of rs (take (length rs) ls)
 unfolding instants_for
 for_front [] ls = refl
 for_front (r ∷ rs) [] = refl
 for_front (r ∷ rs) (l ∷ ls) = ap (λ (x : List Instant). cond (is_there r) (instant_of l) never ∷ x) (for_front rs ls)
 
-last_back : (rs : List Row) (is : List Instant) → length is ≡ length rs → length rs ≤ most_rows → instants_of rs (placed most_rows zero_last (map last_of is)) ≡ instants_for rs is
+last_back : (rs : List Row) (is : List Instant) → length is ≡ length rs → length rs ≤ most_rows → instants_of rs (placed most_rows None (map last_of is)) ≡ instants_for rs is
 last_back rs is n h =
     let m : length (map last_of is) ≡ length rs = length-map is last_of ∙ n in
-    for_front rs (placed most_rows zero_last (map last_of is))
-    ∙ ap (λ (ls : List Last). instants_of rs ls) (rw m at (placed_shows zero_last most_rows (map last_of is) (rw m h)))
+    for_front rs (placed most_rows None (map last_of is))
+    ∙ ap (λ (ls : List (Option ℕ)). instants_of rs ls) (rw m at (placed_shows None most_rows (map last_of is) (rw m h)))
     ∙ ap (λ (xs : List Instant). instants_for rs xs) (instants_back is)
 
 bounds_back : (bs : List ℕ) → length bs ≤ most_rows → kept_of (length bs) (placed most_rows 0 bs) ≡ bs
@@ -74,7 +75,7 @@ view_back t s e h =
     let rows : rows_of t ≡ s.table.rows = ap (λ (c : Contents). c.rows) e in
     let n : t.count ≡ length s.bounds = sym (rows_length t) ∙ ap (λ (c : Contents). length c.rows) e ∙ sym h.bounds in
     let m : length s.last ≡ length s.table.rows = ap (λ (l : List Instant). length l) (sym h.last) ∙ for_length s.table.rows s.last in
-    let last : instants_of (rows_of t) (placed most_rows zero_last (map last_of s.last)) ≡ s.last = rw rows (last_back s.table.rows s.last m h.rows ∙ h.last) in
+    let last : instants_of (rows_of t) (placed most_rows None (map last_of s.last)) ≡ s.last = rw rows (last_back s.table.rows s.last m h.rows ∙ h.last) in
     let kept : kept_of t.count (placed most_rows 0 s.bounds) ≡ s.bounds = rw n (bounds_back s.bounds (omega (arith, h.bounds, h.rows))) in
     let a = waiting_back class_places s.a h.a in
     let b = waiting_back class_places s.b h.b in

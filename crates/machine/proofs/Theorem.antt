@@ -1,6 +1,7 @@
 -- Demand 3. Every run of the calls, from a record that opening gave for an accepted table, keeps the three promises: a taken frame is reported once and
 -- within the largest bound that its row has had since, no call meets 18, and no row's offer fails for lack of space. There is no other hypothesis. A step of a run may be a call on a
 -- record by value or on a lent record: the run asks only what the call gives back.
+use Rattle.std.specs.Prelude.{Option, Some, None}
 use Prim.Native.Nat.{ℕ, ◌+◌, ◌-◌, ◌≤◌, ◌<◌, max}
 use mathlib.Core.Bool.{Bool, true, false, not, cond, ◌&&◌, false≢true}
 use mathlib.Core.List.{List, [], ◌∷◌}
@@ -24,8 +25,6 @@ use Rattle.planner.proofs.Laws as law
 use Rattle.machine.specs.declared.Frame.{Frame}
 use Rattle.machine.specs.declared.Wire.{Wire}
 use Rattle.machine.specs.declared.Wire.TheVariants.{Free, Sending}
-use Rattle.machine.specs.declared.Ended.{Ended}
-use Rattle.machine.specs.declared.Ended.TheVariants.{Reported, Nothing}
 use Rattle.machine.specs.declared.Port.{Port}
 use Rattle.machine.specs.Limits.{last_clock, class_places}
 use Rattle.machine.specs.State.{State, queue, view, Placed}
@@ -215,9 +214,9 @@ module _ (t : Contents) (ok : opening t ≡ accepted) where
         go false = omega arith
 
     -- ---- a report is in time
-    advance_in_time : {es : List Event} {s : State} (n : ℕ) → Along t es s → InUse s.table row → s.clock + n ≤ last_clock → (e : Ended) → (progress n s).ended ≡ e → reported_by row inst size (passed (progress n s).passed e) ≡ 1 → (progress n s).passed + clock_of es ≤ inst + bound_in t es row
-    advance_in_time n w u room Nothing e q = absurd (omega arith)
-    advance_in_time {es} {s} n w u room (Reported f) e q = go (named row inst size f) refl
+    advance_in_time : {es : List Event} {s : State} (n : ℕ) → Along t es s → InUse s.table row → s.clock + n ≤ last_clock → (e : Option Frame) → (progress n s).ended ≡ e → reported_by row inst size (passed (progress n s).passed e) ≡ 1 → (progress n s).passed + clock_of es ≤ inst + bound_in t es row
+    advance_in_time n w u room None e q = absurd (omega arith)
+    advance_in_time {es} {s} n w u room (Some f) e q = go (named row inst size f) refl
       where
         go : (b : Bool) → named row inst size f ≡ b → (progress n s).passed + clock_of es ≤ inst + bound_in t es row
         go true z =

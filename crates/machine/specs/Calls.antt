@@ -1,7 +1,8 @@
 -- The five calls of a list: what each answers, and the port that it gives.
-use Rattle.std.specs.Prelude.{ℕ, ◌+◌, ◌-◌, Bool, true, false, not, ◌&&◌, List, [], ◌∷◌, ◌++◌, ◌≡◌, ℤ, pos, negsuc, leb, ltb, eqb, length, get_or, set}
+use Rattle.std.specs.Prelude.{ℕ, ◌+◌, ◌-◌, Bool, true, false, not, ◌&&◌, List, [], ◌∷◌, ◌++◌, ◌≡◌, ℤ, pos, negsuc, leb, ltb, eqb, length, get_or, set, Option, Result, Ok, Err}
 use Rattle.table.specs.declared.Class.{Class}
 use Rattle.table.specs.declared.Row.{Row}
+use Rattle.table.specs.declared.Refusal.{Refusal}
 use Rattle.table.specs.declared.Table.{Table}
 use Rattle.table.specs.Limits.{most_rows}
 use Rattle.table.specs.Wire.{wire_size, size_for, period_of}
@@ -13,17 +14,11 @@ use Rattle.planner.specs.Opening.{slopes_ok, fair_checks, opening}
 use Rattle.machine.specs.declared.Frame.{Frame}
 use Rattle.machine.specs.declared.Wire.{Wire}
 use Rattle.machine.specs.declared.Wire.TheVariants.{Free, Sending}
-use Rattle.machine.specs.declared.Ended.{Ended}
 use Rattle.machine.specs.declared.Denial.{Denial}
 use Rattle.machine.specs.declared.Denial.TheVariants.{Broken, NoSuchRow, Payload, Early, BestEffortFull, TooManySteps, PastLastClock, InUse, Busy, Misfit}
-use Rattle.machine.specs.declared.Offer.{Offer}
-use Rattle.machine.specs.declared.Offer.TheVariants as offers
-use Rattle.machine.specs.declared.Advance.{Advance}
-use Rattle.machine.specs.declared.Advance.TheVariants as advances
+use Rattle.machine.specs.declared.Passed.{Passed}
 use Rattle.machine.specs.declared.Port.{Port}
-use Rattle.machine.specs.declared.AfterOpening.{AfterOpening}
-use Rattle.machine.specs.declared.AfterOffer.{AfterOffer}
-use Rattle.machine.specs.declared.AfterAdvance.{AfterAdvance}
+use Rattle.machine.specs.declared.After.{After}
 use Rattle.machine.specs.Limits.{last_clock, most_steps, best_mark, best_places}
 use Rattle.machine.specs.State.{Instant, never, at, State, queue, with_queue, with_best, with_last, patched, fresh, view}
 use Rattle.machine.specs.Time.{progress}
@@ -40,7 +35,7 @@ pub data Call : Type 0 where
 -- What a call answers: an offer, a join or a leave is taken, an advance gives the count passed and the ended frame or none; or it is refused with a number and a place.
 pub data Answer : Type 0 where
   taken : Answer
-  passed : (n : ℕ) → Ended → Answer
+  passed : (n : ℕ) → Option Frame → Answer
   denied : (number place : ℕ) → Answer
 
 -- Early means clock − last taken instant < P; a first frame is never early.
@@ -169,18 +164,18 @@ place_of InUse = 0
 place_of Busy = 0
 place_of (Misfit r) = tables.place_of r
 
--- The answer that each case of the answer enums stands for.
-abbrev pub offer_answer : Offer → Answer
-offer_answer offers.Taken = taken
-offer_answer (offers.Refused d) = denied (number_of d) (place_of d)
+-- The answer that a result stands for.
+abbrev pub offer_answer : Result (Unit {0}) Denial → Answer
+offer_answer (Ok u) = taken
+offer_answer (Err d) = denied (number_of d) (place_of d)
 
-abbrev pub advance_answer : Advance → Answer
-advance_answer (advances.Passed n e) = passed n e
-advance_answer (advances.Refused d) = denied (number_of d) (place_of d)
+abbrev pub advance_answer : Result Passed Denial → Answer
+advance_answer (Ok x) = passed x.count x.ended
+advance_answer (Err d) = denied (number_of d) (place_of d)
 
 -- What a call gives: the machine's answer, the machine's port, the table's places as they were unless a row has joined or left, and at a refusal the whole record as it was. Where a
--- call is not refused the other places that belong to no part are free: a queue's from its count on, the instants of numbers that are not in use, the number beside an instant
--- that is not known, the bounds behind the row count, and after a join or a leave the row places behind it. They may hold anything, and no answer and no part depends on them.
+-- call is not refused the other places that belong to no part are free: a queue's from its count on, the instants of numbers that are not in use, the
+-- bounds behind the row count, and after a join or a leave the row places behind it. They may hold anything, and no answer and no part depends on them.
 abbrev pub Keeps : Answer → Port → Port → Type 0
 Keeps taken p q = Unit {0}
 Keeps (passed n e) p q = Unit {0}
@@ -214,25 +209,25 @@ pub record Became (s : State) (p q : Port) : Type 0 where
   pub table : q.table ≡ p.table
 
 -- The promises of the calls.
-abbrev pub Offered : Port → ℕ → ℕ → AfterOffer → Type 0
+abbrev pub Offered : Port → ℕ → ℕ → After (Result (Unit {0}) Denial) → Type 0
 Offered p k x r = Gives p (offer k x) (offer_answer r.answer) r.port
 
-abbrev pub OfferedBest : Port → ℕ → AfterOffer → Type 0
+abbrev pub OfferedBest : Port → ℕ → After (Result (Unit {0}) Denial) → Type 0
 OfferedBest p x r = Gives p (offer_best x) (offer_answer r.answer) r.port
 
-abbrev pub Advanced : Port → ℕ → AfterAdvance → Type 0
+abbrev pub Advanced : Port → ℕ → After (Result Passed Denial) → Type 0
 Advanced p n r = Gives p (advance n) (advance_answer r.answer) r.port
 
-abbrev pub Joined : Port → ℕ → Row → AfterOffer → Type 0
+abbrev pub Joined : Port → ℕ → Row → After (Result (Unit {0}) Denial) → Type 0
 Joined p k x r = Gives p (join k x) (offer_answer r.answer) r.port
 
-abbrev pub Left : Port → ℕ → AfterOffer → Type 0
+abbrev pub Left : Port → ℕ → After (Result (Unit {0}) Denial) → Type 0
 Left p k r = Gives p (leave k) (offer_answer r.answer) r.port
 
 -- Opening: the planner's verdict, and the fresh port of the table, which stands in the record as it was handed in; the other places that belong to no part are free
 -- here too. At a refusal the port is handed back all the same, with zeros for bounds.
-pub record Opened (t : Table) (r : AfterOpening) : Type 0 where
-  pub verdict : outcome_of r.verdict ≡ opening (contents t)
+pub record Opened (t : Table) (r : After (Result (Unit {0}) Refusal)) : Type 0 where
+  pub verdict : outcome_of r.answer ≡ opening (contents t)
   pub port : view r.port ≡ fresh (contents t)
   pub table : r.port.table ≡ t
 

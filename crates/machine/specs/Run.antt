@@ -1,6 +1,7 @@
 -- Demand 3: what is promised of every list of calls from a fresh port.
-use Rattle.std.specs.Prelude.{ℕ, ◌+◌, ◌≤◌, max, Bool, true, false, not, cond, ◌&&◌, List, [], ◌∷◌, ◌≡◌, eqb, length}
+use Rattle.std.specs.Prelude.{ℕ, ◌+◌, ◌≤◌, max, Bool, true, false, not, cond, ◌&&◌, List, [], ◌∷◌, ◌≡◌, eqb, length, Some, None, Result}
 use Rattle.table.specs.declared.Class.{Class}
+use Rattle.table.specs.declared.Refusal.{Refusal}
 use Rattle.table.specs.declared.Table.{Table}
 use Rattle.table.specs.Wire.{size_for, period_of}
 use Rattle.table.specs.Rows.{Contents, contents, row_at, InUse, with_row, without_row}
@@ -8,9 +9,8 @@ use Rattle.table.specs.Checks.{accepted}
 use Rattle.planner.specs.Bound.{bound, bounds_of}
 use Rattle.planner.specs.Opening.{opening}
 use Rattle.machine.specs.declared.Frame.{Frame}
-use Rattle.machine.specs.declared.Ended.TheVariants.{Reported, Nothing}
 use Rattle.machine.specs.declared.Port.{Port}
-use Rattle.machine.specs.declared.AfterOpening.{AfterOpening}
+use Rattle.machine.specs.declared.After.{After}
 use Rattle.machine.specs.Limits.{class_places}
 use Rattle.machine.specs.State.{Instant, never, at, State, queue, fresh, view}
 use Rattle.machine.specs.Calls.{Call, offer, offer_best, advance, join, leave, Answer, taken, passed, denied, too_soon, after, answer, patches, Gives, Opened}
@@ -21,7 +21,7 @@ pub data Event : Type 0 where
 
 -- A run: a list of calls with the answers they gave, tied from record to record by what the calls promise, from a record that opening gave for an accepted table.
 pub data Run (t : Table) : List Event → Port → Type 0 where
-  opened : {r : AfterOpening} → Opened t r → opening (contents t) ≡ accepted → Run t [] r.port
+  opened : {r : After (Result (Unit {0}) Refusal)} → Opened t r → opening (contents t) ≡ accepted → Run t [] r.port
   called : {es : List Event} {p q : Port} {c : Call} {a : Answer} → Run t es p → Gives p c a q → Run t (event c a ∷ es) q
 
 -- The clock stands at the sum of the counts passed that the list's advances have given; a refused call adds nothing.
@@ -120,8 +120,8 @@ count false = 0
 
 abbrev pub reported_by : ℕ → ℕ → ℕ → Answer → ℕ
 reported_by row instant size taken = 0
-reported_by row instant size (passed n Nothing) = 0
-reported_by row instant size (passed n (Reported f)) = count (named row instant size f)
+reported_by row instant size (passed n None) = 0
+reported_by row instant size (passed n (Some f)) = count (named row instant size f)
 reported_by row instant size (denied n p) = 0
 
 -- How many advances of a list report it.

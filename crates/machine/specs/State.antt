@@ -1,5 +1,5 @@
 -- A port by its parts.
-use Rattle.std.specs.Prelude.{ℕ, ◌-◌, ◌≤◌, true, false, cond, List, [], ◌∷◌, ◌++◌, map, ◌≡◌, ℤ, pos, take, length, replicate}
+use Rattle.std.specs.Prelude.{ℕ, ◌-◌, ◌≤◌, cond, List, [], ◌∷◌, ◌++◌, map, ◌≡◌, ℤ, pos, take, length, replicate, Option, Some, None}
 use Rattle.table.specs.declared.Class.{Class}
 use Rattle.table.specs.declared.Class.TheVariants.{A, B}
 use Rattle.table.specs.declared.Row.{Row}
@@ -12,7 +12,6 @@ use Rattle.planner.specs.Opening.{opening}
 use Rattle.machine.specs.declared.Frame.{Frame}
 use Rattle.machine.specs.declared.Wire.{Wire}
 use Rattle.machine.specs.declared.Wire.TheVariants.{Free}
-use Rattle.machine.specs.declared.Last.{Last}
 use Rattle.machine.specs.declared.Port.{Port}
 use Rattle.machine.specs.Limits.{no_mark, class_places, best_places}
 
@@ -96,8 +95,9 @@ no_frame = record { source = no_mark; size = 0; taken = 0 }
 abbrev pub waiting : ℕ → List Frame → List Frame
 waiting n places = take n places ++ replicate (n - length places) no_frame
 
-abbrev pub instant_of : Last → Instant
-instant_of l = cond l.known (at l.taken) never
+abbrev pub instant_of : Option ℕ → Instant
+instant_of None = never
+instant_of (Some k) = at k
 
 -- The instants of a table's numbers, from those in some places: an empty number has none, nor has one without a place.
 unfoldable pub instants_for : List Row → List Instant → List Instant
@@ -105,7 +105,7 @@ instants_for [] is = []
 instants_for (r ∷ rs) [] = never ∷ instants_for rs []
 instants_for (r ∷ rs) (i ∷ is) = cond (is_there r) i never ∷ instants_for rs is
 
-abbrev pub instants_of : List Row → List Last → List Instant
+abbrev pub instants_of : List Row → List (Option ℕ) → List Instant
 instants_of rs places = instants_for rs (map instant_of places)
 
 -- The kept bounds of as many numbers as a table counts. A number without a place has 0.
@@ -144,16 +144,13 @@ pub record Places (p : Port) : Type 0 where
 abbrev pub zero_frame : Frame
 zero_frame = record { source = 0; size = 0; taken = 0 }
 
-abbrev pub zero_last : Last
-zero_last = record { known = false; taken = 0 }
-
 -- n places: the things of a list, and z in each place behind them.
 unfoldable pub placed : {X : Type 0} → ℕ → X → List X → List X
 placed n z xs = take n (xs ++ replicate n z)
 
-abbrev pub last_of : Instant → Last
-last_of never = zero_last
-last_of (at k) = record { known = true; taken = k }
+abbrev pub last_of : Instant → Option ℕ
+last_of never = None
+last_of (at k) = Some k
 
 -- The record of a port by its parts, over a table record, with zeros in the places that belong to none.
 unfoldable pub port_of : Table → State → Port
@@ -167,7 +164,7 @@ port_of t s =
       a = record { count = length s.a; frames = placed class_places zero_frame s.a };
       b = record { count = length s.b; frames = placed class_places zero_frame s.b };
       best = record { count = length s.best; frames = placed best_places zero_frame s.best };
-      last = placed most_rows zero_last (map last_of s.last);
+      last = placed most_rows None (map last_of s.last);
       wire = s.wire;
     }
 

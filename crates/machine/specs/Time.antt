@@ -1,5 +1,5 @@
 -- One byte-time, in four steps, and byte-times until a frame is reported ended.
-use Rattle.std.specs.Prelude.{ℕ, zero, suc, Bool, true, false, cond, List, [], ◌∷◌, ℤ, pos, negsuc, ◌+ℤ◌, ◌-ℤ◌, eqb}
+use Rattle.std.specs.Prelude.{ℕ, zero, suc, Bool, true, false, cond, List, [], ◌∷◌, ℤ, pos, negsuc, ◌+ℤ◌, ◌-ℤ◌, eqb, Option, Some, None}
 use Rattle.table.specs.declared.Class.{Class}
 use Rattle.table.specs.declared.Class.TheVariants.{A, B}
 use Rattle.table.specs.Limits.{left_at_report}
@@ -8,8 +8,6 @@ use Rattle.planner.specs.Sums.{idle, send}
 use Rattle.machine.specs.declared.Frame.{Frame}
 use Rattle.machine.specs.declared.Wire.{Wire}
 use Rattle.machine.specs.declared.Wire.TheVariants.{Free, Sending}
-use Rattle.machine.specs.declared.Ended.{Ended}
-use Rattle.machine.specs.declared.Ended.TheVariants.{Reported, Nothing}
 use Rattle.machine.specs.State.{State, credit, queue, with_clock, with_credits, with_queue, with_best, with_wire}
 
 -- A frame is of the class of the row that it names, or of best effort.
@@ -87,9 +85,9 @@ abbrev pub pass : State → State
 pass s = with_clock (suc s.clock) (with_wire (wire_after s.wire) s)
 
 -- A frame has ended, and is reported, in the byte-time that leaves `left_at_report` of its bytes. Those still pass, and the frame is reported no second time.
-unfoldable pub reported_in : Wire → Ended
-reported_in Free = Nothing
-reported_in (Sending f left) = cond (eqb left (suc left_at_report)) (Reported f) Nothing
+unfoldable pub reported_in : Wire → Option Frame
+reported_in Free = None
+reported_in (Sending f left) = cond (eqb left (suc left_at_report)) (Some f) None
 
 -- Step 4. A class with no frame waiting or on the wire and credit above 0 goes to 0.
 abbrev pub settled : Bool → List Frame → ℤ → ℤ
@@ -107,22 +105,22 @@ settle s = with_credits (settled_by A s) (settled_by B s) s
 unfoldable pub byte_time : State → State
 byte_time s = settle (pass (earn (start s)))
 
-unfoldable pub ends_in : State → Ended
+unfoldable pub ends_in : State → Option Frame
 ends_in s = reported_in (start s).wire
 
 -- Byte-times until a frame is reported or n have passed.
 pub record Progress : Type 0 where
   pub state : State
   pub passed : ℕ
-  pub ended : Ended
+  pub ended : Option Frame
 
-abbrev pub further : Ended → Progress → Progress
-further (Reported f) p = p
-further Nothing p = record { state = byte_time p.state; passed = suc p.passed; ended = ends_in p.state }
+abbrev pub further : Option Frame → Progress → Progress
+further (Some f) p = p
+further None p = record { state = byte_time p.state; passed = suc p.passed; ended = ends_in p.state }
 
 abbrev pub onward : Progress → Progress
 onward p = further p.ended p
 
 unfoldable pub progress : ℕ → State → Progress
-progress zero s = record { state = s; passed = 0; ended = Nothing }
+progress zero s = record { state = s; passed = 0; ended = None }
 progress (suc n) s = onward (progress n s)

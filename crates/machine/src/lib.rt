@@ -20,7 +20,7 @@ pub const BEST_MARK: u32 = 32;
 // The mark of no frame.
 pub const NO_MARK: u32 = 33;
 
-// A frame: its row, or 32 for best effort; its wire size; the instant it was taken.
+// A frame: its row, or 32 for best effort; its wire size; the instant it was taken. (The source stays a number: a record of any content is judged, `is_sound`, and demand 3 names frames by it.)
 #[derive(Clone, Copy)]
 pub struct Frame {
     pub source: u32,
@@ -28,45 +28,31 @@ pub struct Frame {
     pub taken: u64,
 }
 
-// The wire: free, or a frame with its bytes left.
+// The wire: free, or a frame with its bytes left. (As an Option it would lose the names of its states, by which a byte-time is defined, and be no plainer.)
 #[derive(Clone, Copy)]
 pub enum Wire {
     Free,
     Sending(Frame, u32),
 }
 
-// The frames of a class that wait, first in first out: the first `count` places.
+// The frames that wait in a queue of N places, first in first out: the first `count` places. (Fixed memory, no heap; and a count above the places is judged, `is_sound`.)
 #[derive(Clone, Copy)]
-pub struct Queue {
+pub struct Queue<const N: usize> {
     pub count: usize,
-    pub frames: [Frame; CLASS_PLACES],
+    pub frames: [Frame; N],
 }
 
-// The best-effort frames that wait.
-#[derive(Clone, Copy)]
-pub struct BestQueue {
-    pub count: usize,
-    pub frames: [Frame; BEST_PLACES],
-}
-
-// The instant of a row's last taken frame, if it has one.
-#[derive(Clone, Copy)]
-pub struct Last {
-    pub known: bool,
-    pub taken: u64,
-}
-
-// A port. It keeps the bounds of its table's numbers. (They stand apart from the table: side by side the two would be copied in each call of a list.)
+// A port. It keeps the bounds of its table's numbers, and of each row the instant of its last taken frame, if it has one. (They stand apart from the table: side by side the two would be copied in each call of a list.)
 #[derive(Clone, Copy)]
 pub struct Port {
     pub table: table::Table,
     pub clock: u64,
     pub credita: i64,
     pub creditb: i64,
-    pub a: Queue,
-    pub b: Queue,
-    pub best: BestQueue,
-    pub last: [Last; ROWS],
+    pub a: Queue<CLASS_PLACES>,
+    pub b: Queue<CLASS_PLACES>,
+    pub best: Queue<BEST_PLACES>,
+    pub last: [Option<u64>; ROWS],
     pub bounds: [u64; ROWS],
     pub wire: Wire,
 }
@@ -89,60 +75,23 @@ pub enum Denial {
     Misfit(table::Refusal),
 }
 
-// The answer of an offer, a join or a leave.
+// What an advance has passed: how many byte-times, and the frame that it reports ended, if it reports one.
 #[derive(Clone, Copy)]
-pub enum Offer {
-    Taken,
-    Refused(Denial),
+pub struct Passed {
+    pub count: u64,
+    pub ended: Option<Frame>,
 }
 
-// The frame that an advance reports ended, or none.
+// What opening or a call gives back: its answer, and the port.
 #[derive(Clone, Copy)]
-pub enum Ended {
-    Reported(Frame),
-    Nothing,
-}
-
-// The answer of an advance: the count of byte-times passed and the ended frame.
-#[derive(Clone, Copy)]
-pub enum Advance {
-    Passed(u64, Ended),
-    Refused(Denial),
-}
-
-// What opening gives back: the verdict, and the fresh port.
-#[derive(Clone, Copy)]
-pub struct AfterOpening {
-    pub verdict: table::Verdict,
+pub struct After<A> {
+    pub answer: A,
     pub port: Port,
 }
 
-// What an offer, a join or a leave gives back.
-#[derive(Clone, Copy)]
-pub struct AfterOffer {
-    pub answer: Offer,
-    pub port: Port,
-}
-
-// What an advance gives back.
-#[derive(Clone, Copy)]
-pub struct AfterAdvance {
-    pub answer: Advance,
-    pub port: Port,
-}
-
-// What a call answers: an offer, a join or a leave is taken, an advance gives the count passed and the ended frame, or the call is refused.
-#[derive(Clone, Copy)]
-pub enum Reply {
-    Taken,
-    Passed(u64, Ended),
-    Refused(Denial),
-}
-
-// The one queue that a call changes, if it does: its head has left it, or a frame has joined it.
+// The one queue that a call changes: its head has left it, or a frame has joined it.
 #[derive(Clone, Copy)]
 pub enum Change {
-    None,
     LeftA,
     LeftB,
     LeftBest,
@@ -151,23 +100,21 @@ pub enum Change {
     JoinedBest(Frame),
 }
 
-// What an offer or an advance comes to: its answer, the clock, the credits and the wire afterwards, and the queue that it changes.
+// What an offer or an advance that is not refused comes to: what an advance has passed, the clock, the credits and the wire afterwards, and the queue that it changes, if it changes one.
 #[derive(Clone, Copy)]
 pub struct Effect {
-    pub reply: Reply,
+    pub passed: Option<Passed>,
     pub clock: u64,
     pub credita: i64,
     pub creditb: i64,
     pub wire: Wire,
-    pub change: Change,
+    pub change: Option<Change>,
 }
 
-// What a join or a leave comes to: its answer, the table and its bounds afterwards, and the number whose last instant is cleared, 32 for none. At a refusal the table and the bounds are
-// the port's.
+// What a join or a leave that is not refused comes to: the table and its bounds afterwards, and the number whose last instant is cleared, if one is.
 #[derive(Clone, Copy)]
 pub struct Patch {
-    pub answer: Offer,
     pub table: table::Table,
     pub bounds: [u64; ROWS],
-    pub cleared: usize,
+    pub cleared: Option<usize>,
 }

@@ -1,11 +1,12 @@
 -- What is noted of the rows' frames, one frame after the other: how many there are, which is the newest, and that frames in turn are a period apart.
-use Prim.Native.Nat.{ℕ, suc, ◌+◌, ◌-◌, ◌≤◌, ◌<◌, max}
-use mathlib.Core.Bool.{Bool, true, false, cond}
+use Prim.Native.Nat.{ℕ, zero, suc, ◌+◌, ◌-◌, ◌≤◌, ◌<◌, max}
+use mathlib.Core.Bool.{Bool, true, false, cond, false≢true}
 use mathlib.Core.List.{List, [], ◌∷◌, ◌++◌, append-nil}
-use mathlib.Core.Path.{◌≡◌, refl, sym, ◌∙◌}
+use mathlib.Core.Path.{◌≡◌, refl, sym, ◌∙◌, ap}
 use native.Mathlib.Omega.{arith}
 use lib.Dec.{eqb}
 use lib.ListN.{length, get_or, set, replicate, length-set, length-append, length-replicate, get_or-replicate}
+use Rattle.std.proofs.lemmas.List.{get_or-map}
 use lib.Seq.{get_or-set_same, get_or-set_other}
 use borrow.Author.Tests.{eqb-true, eqb-false, ne_eqb, leb-true, le-leb}
 use Rattle.table.specs.declared.Table.{Table}
@@ -18,7 +19,12 @@ use Rattle.machine.specs.declared.Wire.{Wire}
 use Rattle.machine.specs.declared.Wire.TheVariants.{Free, Sending}
 use Rattle.machine.specs.Record.{taken_in, sending, apart, apart_from, spaced, newest_of}
 use Rattle.machine.proofs.FromSound.{taken_append}
-use Rattle.notes.specs.Notes.{in_turn, Notes, Apart}
+use denote.Enum.Bare.{sameb}
+use Rattle.notes.specs.contracts.Order as order
+use Rattle.notes.specs.declared.Noted.{Noted}
+use Rattle.notes.specs.declared.Order.{Order}
+use Rattle.notes.specs.declared.Order.TheVariants.{Broken, Rising, Mixed}
+use Rattle.notes.specs.Notes.{newests, counts, in_turn, Notes, Apart}
 
 -- ---- one instant behind others
 newest_append : (xs ys : List ℕ) → newest_of (xs ++ ys) ≡ max (newest_of xs) (newest_of ys)
@@ -51,13 +57,32 @@ taken_few k (f ∷ fs) = go (eqb f.source k) (taken_few k fs)
     go false h = omega arith
 
 -- no frame yet
-pub none_noted : Notes [] (replicate most_rows 0) (replicate most_rows 0)
+abbrev pub zero_noted : Noted
+zero_noted = record { newest = 0; count = 0 }
+
+-- a row's place
+module _ (xs : List Noted) (k : ℕ) (h : k < length xs) where
+  pub newest_at : get_or (newests xs) k 0 ≡ (get_or xs k zero_noted).newest
+  newest_at = get_or-map (λ (n : Noted). n.newest) xs k zero_noted 0 h
+
+  pub count_at : get_or (counts xs) k 0 ≡ (get_or xs k zero_noted).count
+  count_at = get_or-map (λ (n : Noted). n.count) xs k zero_noted 0 h
+
+newests_none : (n : ℕ) → newests (replicate n zero_noted) ≡ replicate n 0
+newests_none zero = refl
+newests_none (suc n) = ap (λ (l : List ℕ). 0 ∷ l) (newests_none n)
+
+counts_none : (n : ℕ) → counts (replicate n zero_noted) ≡ replicate n 0
+counts_none zero = refl
+counts_none (suc n) = ap (λ (l : List ℕ). 0 ∷ l) (counts_none n)
+
+pub none_noted : Notes [] (newests (replicate most_rows zero_noted)) (counts (replicate most_rows zero_noted))
 none_noted =
-    record {
+    rw (newests_none most_rows, counts_none most_rows) (record {
       places = (length-replicate {A = ℕ} most_rows 0, length-replicate {A = ℕ} most_rows 0);
       newest = λ k h. get_or-replicate {A = ℕ} most_rows k 0 0 h;
       counts = λ k h. get_or-replicate {A = ℕ} most_rows k 0 0 h;
-    }
+    })
 
 -- ---- one frame more, of a row or of none
 module _ (fs : List Frame) (xs ns : List ℕ) (n : Notes fs xs ns) (f : Frame) where
@@ -108,3 +133,24 @@ one_apart t (Sending f left) k h = go (eqb f.source k)
 pub one_sending : (w : Wire) → length (sending w) ≤ 1
 one_sending Free = omega arith
 one_sending (Sending f left) = omega arith
+
+-- two orders that are compared
+module _ {r : Bool} where
+  pub is_order : (o q : Order) → r ≡ sameb order.the_type o q → r ≡ true → o ≡ q
+  is_order Broken Broken e h = refl
+  is_order Broken Rising e h = absurd (false≢true (sym e ∙ h))
+  is_order Broken Mixed e h = absurd (false≢true (sym e ∙ h))
+  is_order Rising Broken e h = absurd (false≢true (sym e ∙ h))
+  is_order Rising Rising e h = refl
+  is_order Rising Mixed e h = absurd (false≢true (sym e ∙ h))
+  is_order Mixed Broken e h = absurd (false≢true (sym e ∙ h))
+  is_order Mixed Rising e h = absurd (false≢true (sym e ∙ h))
+  is_order Mixed Mixed e h = refl
+
+  same_order : (o : Order) → r ≡ sameb order.the_type o o → r ≡ true
+  same_order Broken e = e
+  same_order Rising e = e
+  same_order Mixed e = e
+
+  pub no_order : (o q : Order) → r ≡ sameb order.the_type o q → r ≡ false → o ≡ q → ⊥
+  no_order o q e h i = false≢true (sym h ∙ same_order o (rw (← i) at e))

@@ -1,2 +1,3 @@
--- What is noted of the frames in a record, and what is asked of those that wait.
+-- What is noted of the frames in a record, what is asked of those that wait, and what the private functions promise each other (Steps).
 pub mod Notes
+pub mod Steps

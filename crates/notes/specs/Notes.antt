@@ -1,8 +1,8 @@
 -- What is noted of the frames in a record, row by row, and what is asked of each that waits.
-use Rattle.std.specs.Prelude.{ℕ, ◌+◌, ◌≤◌, ◌<◌, Bool, true, false, ◌&&◌, ◌||◌, List, ◌≡◌, leb, eqb, length, get_or, take}
+use Rattle.std.specs.Prelude.{ℕ, ◌+◌, ◌≤◌, ◌<◌, Bool, true, false, ◌&&◌, ◌||◌, List, ◌≡◌, leb, eqb, length, get_or, take, map}
 use Rattle.table.specs.declared.Class.TheVariants.{A, B}
 use Rattle.table.specs.declared.Table.{Table}
-use Rattle.table.specs.Limits.{most_rows}
+use Rattle.table.specs.Limits.{most_rows, class_places}
 use Rattle.table.specs.Wire.{period_of}
 use Rattle.table.specs.Rows.{no_row, Contents, contents}
 use Rattle.figures.specs.declared.Lane.{Lane}
@@ -12,11 +12,19 @@ use Rattle.machine.specs.declared.Wire.{Wire}
 use Rattle.machine.specs.Record.{all_of, taken_in, spaced, newest_of}
 use Rattle.frames.specs.Tests.{frame_test, limits_by}
 use Rattle.spacing.specs.Spread.{in_record}
+use Rattle.notes.specs.declared.Noted.{Noted}
 use Rattle.notes.specs.declared.Order.{Order}
 use Rattle.notes.specs.declared.Order.TheVariants.{Broken, Rising, Mixed}
 
+-- The rows' newest instants, and their counts.
+abbrev pub newests : List Noted → List ℕ
+newests xs = map (λ (n : Noted). n.newest) xs
+
+abbrev pub counts : List Noted → List ℕ
+counts xs = map (λ (n : Noted). n.count) xs
+
 -- The frames that wait in both class queues, each by its row and its limit of age.
-unfoldable pub queues_test : Contents → List ℕ → ℕ → Queue → Queue → Bool
+unfoldable pub queues_test : Contents → List ℕ → ℕ → Queue class_places → Queue class_places → Bool
 queues_test t limits now a b = all_of (frame_test A t limits now) (take a.count a.frames) && all_of (frame_test B t limits now) (take b.count b.frames)
 
 -- A frame is in turn if it was taken a period or more after the newest of those before it, or if it is the first.
@@ -39,7 +47,7 @@ Apart t fs = (k : ℕ) → k < most_rows → spaced (period_of (get_or t.rows k 
 
 -- All frames noted, and in order, so apart, or perhaps not (`Mixed` says nothing of it: the spaces are still to be asked for); or one of those that wait may not be there. What the notes hold is free
 -- then: their owner drops them.
-abbrev pub NotedBy : Wire → Queue → Queue → Table → Lane → Lane → ℕ → List ℕ → List ℕ → Order → Type 0
+abbrev pub NotedBy : Wire → Queue class_places → Queue class_places → Table → Lane → Lane → ℕ → List ℕ → List ℕ → Order → Type 0
 NotedBy w a b t ofa ofb now newest counts Broken = queues_test (contents t) (limits_by ofa ofb t.rows) now a b ≡ false
 NotedBy w a b t ofa ofb now newest counts Rising = (queues_test (contents t) (limits_by ofa ofb t.rows) now a b ≡ true) × Notes (in_record w a b) newest counts × Apart t (in_record w a b)
 NotedBy w a b t ofa ofb now newest counts Mixed = (queues_test (contents t) (limits_by ofa ofb t.rows) now a b ≡ true) × Notes (in_record w a b) newest counts

@@ -1,4 +1,5 @@
 -- What an offer's checks say of a record, what a sound record has for the code, what an offer then comes to, and what it gives.
+use Rattle.std.specs.Prelude.{Option, Some, None}
 use Prim.Native.Nat.{ℕ, ◌≤◌, ◌<◌}
 use mathlib.Core.Bool.{true, false}
 use mathlib.Core.Path.{◌≡◌, refl, ◌∙◌}
@@ -14,21 +15,19 @@ use Rattle.table.specs.Checks.{Outcome, accepted, refused}
 use Rattle.table.proofs.Laws as table
 use Rattle.machine.specs.declared.Denial.{Denial}
 use Rattle.machine.specs.declared.Frame.{Frame}
-use Rattle.machine.specs.declared.Offer.{Offer}
 use Rattle.machine.specs.declared.Port.{Port}
-use Rattle.machine.specs.declared.Reply.{Reply}
-use Rattle.machine.specs.declared.Reply.TheVariants.{Taken, Passed, Refused}
-use Rattle.machine.specs.declared.Change.TheVariants.{None, JoinedBest}
+use Rattle.machine.specs.declared.Change.TheVariants.{JoinedBest}
 use Rattle.machine.specs.declared.Effect.{Effect}
+use Rattle.machine.specs.declared.Passed.{Passed}
 use Rattle.machine.specs.Limits.{class_places, best_places, best_mark}
 use Rattle.machine.specs.State.{State, queue, instant_of, view}
 use Rattle.machine.specs.Record.{sound}
-use Rattle.machine.specs.Calls.{Call, offer, offer_best, taken, too_soon, early, offer_check, best_check, row_frame, joined, take_row, take_best, answer_by, answer, number_of, place_of, offer_answer, Gives}
-use Rattle.machine.specs.Effects.{reply_answer, carried_out, HasRow, Room, Comes}
+use Rattle.machine.specs.Calls.{Call, offer, offer_best, taken, too_soon, early, offer_check, best_check, row_frame, joined, take_row, take_best, answer_by, answer, number_of, place_of, Gives}
+use Rattle.machine.specs.Effects.{passed_answer, carried_out, HasRow, Room, Comes, Denied}
 use Rattle.machine.proofs.FromSound.{clauses, is_accepted_lem, place_left}
-use Rattle.machine.proofs.Places.{Places, zero_last, waiting_length, instants_length, instant_at_lem}
+use Rattle.machine.proofs.Places.{Places, waiting_length, instants_length, instant_at_lem}
 use Rattle.effects.proofs.Laws.{Carried, carries, refuses}
-use Rattle.offers.specs.Steps.{effect_on, joined_in, offer_of}
+use Rattle.offers.specs.Steps.{effect_on, joined_in}
 
 -- ---- the checks in their order, of a row's offer
 module _ (s : State) (k x : ℕ) where
@@ -101,7 +100,7 @@ module _ (p : Port) where
         unfolding view
         in_use_lem = table.in_use_lem p.table places.rows few_rows k h there
 
-        pub early_is : early (view p) k ≡ too_soon (instant_of (get_or p.last k zero_last)) p.clock (period_of (get_or p.table.rows k no_row))
+        pub early_is : early (view p) k ≡ too_soon (instant_of (get_or p.last k None)) p.clock (period_of (get_or p.table.rows k no_row))
         unfolding view
         early_is = rw (instant_at_lem (rows_of p.table) p.last k in_use_lem.there, table.row_at_lem p.table places.rows few_rows k h) refl
 
@@ -110,45 +109,44 @@ module _ (p : Port) where
         room late = place_left (view p) (clauses (view p) ok) k in_use_lem late
 
 -- ---- what an offer comes to
-module _ (p : Port) {e : Effect} where
-  pub row_refused : (k x : ℕ) (d : Denial) → offer_check (view p) k x ≡ refused (number_of d) (place_of d) → e ≡ effect_on p (Refused d) None → Comes p (offer k x) e
-  row_refused k x d h q = refuses p (offer k x) d (rw h refl) (rw h refl) q
+module _ (p : Port) where
+  pub row_refused : (k x : ℕ) (d : Denial) → offer_check (view p) k x ≡ refused (number_of d) (place_of d) → Denied p (offer k x) d
+  row_refused k x d h = refuses p (offer k x) d (rw h refl) (rw h refl)
 
-  pub best_refused : (x : ℕ) (d : Denial) → best_check (view p) x ≡ refused (number_of d) (place_of d) → e ≡ effect_on p (Refused d) None → Comes p (offer_best x) e
-  best_refused x d h q = refuses p (offer_best x) d (rw h refl) (rw h refl) q
+  pub best_refused : (x : ℕ) (d : Denial) → best_check (view p) x ≡ refused (number_of d) (place_of d) → Denied p (offer_best x) d
+  best_refused x d h = refuses p (offer_best x) d (rw h refl) (rw h refl)
 
 -- a row's frame joins its class's queue
-joins : (p : Port) (c : Class) (f : Frame) → carried_out (effect_on p Taken (joined_in c f)) (view p) ≡ joined c f (view p)
+joins : (p : Port) (c : Class) (f : Frame) → carried_out (effect_on p (joined_in c f)) (view p) ≡ joined c f (view p)
 unfolding view
 joins p A f = refl
 joins p B f = refl
 
-joins_room : (c : Class) (f : Frame) (s : State) → length (queue c s) < class_places → HasRow f s → Room (joined_in c f) s
+joins_room : (c : Class) (f : Frame) (s : State) → length (queue c s) < class_places → HasRow f s → Room (Some (joined_in c f)) s
 joins_room A f s h g = (h, g)
 joins_room B f s h g = (h, g)
 
 module _ (p : Port) (ok : sound (view p) ≡ true) (places : Places p) (k : ℕ) (h : k < p.table.count) (there : is_there (get_or p.table.rows k no_row) ≡ true) where
-  pub row_accepted : (x size : ℕ) {e : Effect} → x ≤ (row_at (view p).table k).payload → early (view p) k ≡ false → size ≡ size_for (get_or p.table.rows k no_row) x → e ≡ effect_on p Taken (joined_in (get_or p.table.rows k no_row).class (record { source = k; size = size; taken = p.clock })) → Comes p (offer k x) e
+  pub row_accepted : (x size : ℕ) {e : Effect} → x ≤ (row_at (view p).table k).payload → early (view p) k ≡ false → size ≡ size_for (get_or p.table.rows k no_row) x → e ≡ effect_on p (joined_in (get_or p.table.rows k no_row).class (record { source = k; size = size; taken = p.clock })) → Comes p (offer k x) e
   unfolding view take_row
   row_accepted x size few late z q =
       let check = passes (view p) k x ok (in_use_lem p ok places k h there) few late in
       let c = (row_at (view p).table k).class in
-      rw (q, z, ← row_is p ok places k h) (record { answer = rw check refl; port = rw check (joins p c (row_frame (view p) k x)); room = joins_room c _ (view p) (room p ok places k h there late) (omega (arith, few_rows p ok), rw (instants_length (rows_of p.table) p.last) (in_use_lem p ok places k h there).below, (in_use_lem p ok places k h there).there); kept = tt })
+      rw (q, z, ← row_is p ok places k h) (record { answer = rw check refl; port = rw check (joins p c (row_frame (view p) k x)); room = joins_room c _ (view p) (room p ok places k h there late) (omega (arith, few_rows p ok), rw (instants_length (rows_of p.table) p.last) (in_use_lem p ok places k h there).below, (in_use_lem p ok places k h there).there) })
 
 module _ (p : Port) (ok : sound (view p) ≡ true) where
-  pub best_accepted : (x size : ℕ) {e : Effect} → x ≤ p.table.header.payload → p.best.count < best_places → size ≡ wire_size x → e ≡ effect_on p Taken (JoinedBest (record { source = best_mark; size = size; taken = p.clock })) → Comes p (offer_best x) e
+  pub best_accepted : (x size : ℕ) {e : Effect} → x ≤ p.table.header.payload → p.best.count < best_places → size ≡ wire_size x → e ≡ effect_on p (JoinedBest (record { source = best_mark; size = size; taken = p.clock })) → Comes p (offer_best x) e
   unfolding view take_best
   best_accepted x size few free z q =
       let room : length (view p).best < best_places = rw (best_count p) free in
       let check = best_passes (view p) x ok few room in
-      rw (q, z) (record { answer = rw check refl; port = rw check refl; room = room; kept = tt })
+      rw (q, z) (record { answer = rw check refl; port = rw check refl; room = room })
 
--- ---- an offer that is carried out: it replies with no count
-reply_is : (r : Reply) (o : Outcome) → reply_answer r ≡ answer_by o taken → offer_answer (offer_of r) ≡ reply_answer r
-reply_is Taken o h = refl
-reply_is (Passed n x) accepted h = let z : ◌≡◌ {A = ℕ} 0 1 = cc in absurd (omega arith)
-reply_is (Passed n x) (refused m l) h = let z : ◌≡◌ {A = ℕ} 0 1 = cc in absurd (omega arith)
-reply_is (Refused d) o h = refl
+-- ---- an offer that is carried out has passed no byte-time
+passed_is : (x : Option Passed) (o : Outcome) → passed_answer x ≡ answer_by o taken → passed_answer x ≡ taken
+passed_is None o h = refl
+passed_is (Some x) accepted h = let z : ◌≡◌ {A = ℕ} 0 1 = cc in absurd (omega arith)
+passed_is (Some x) (refused m l) h = let z : ◌≡◌ {A = ℕ} 0 1 = cc in absurd (omega arith)
 
-pub offered : {p q : Port} {c : Call} {e : Effect} {a : Offer} (o : Outcome) → answer (view p) c ≡ answer_by o taken → Comes p c e → Carried p e q → a ≡ offer_of e.reply → Gives p c (offer_answer a) q
-offered {e = e} o h m b ea = rw (ea, reply_is e.reply o (m.answer ∙ h)) (carries m b)
+pub offered : {p q : Port} {c : Call} {e : Effect} (o : Outcome) → answer (view p) c ≡ answer_by o taken → Comes p c e → Carried p e q → Gives p c taken q
+offered {e = e} o h m b = rw (passed_is e.passed o (m.answer ∙ h)) at (carries m b)

@@ -5,13 +5,13 @@ use mathlib.Core.List.{List, [], ◌∷◌, ◌++◌}
 use mathlib.Core.Path.{◌≡◌, refl, ap}
 use native.Mathlib.Omega.{arith}
 use lib.ListN.{length, take, replicate, length-replicate}
+use Rattle.std.specs.declared.option.Option.TheVariants.{None}
 use Rattle.table.specs.declared.Row.{Row}
 use Rattle.table.specs.Rows.{is_there}
 use Rattle.machine.specs.State.{Instant, never, instants_for, instants_of, kept_of}
-use Rattle.machine.proofs.Places.{zero_last}
 
 -- no number has an instant where none of the places has one
-pub no_instants : (rs : List Row) (m : ℕ) → instants_of rs (replicate m zero_last) ≡ replicate (length rs) never
+pub no_instants : (rs : List Row) (m : ℕ) → instants_of rs (replicate m None) ≡ replicate (length rs) never
 unfolding instants_for
 no_instants [] m = refl
 no_instants (r ∷ rs) zero = ap (λ (l : List Instant). never ∷ l) (no_instants rs zero)

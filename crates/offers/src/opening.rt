@@ -6,9 +6,9 @@ ghost use Rattle.planner.specs.Plan.{bounds_at};
 ghost use Rattle.machine.specs.State.{view, fresh};
 ghost use Rattle.machine.specs.Calls.{Opened};
 
-use machine::{AfterOpening, BEST_PLACES, BestQueue, Frame, Last, Port, Queue, Wire};
+use machine::{After, BEST_PLACES, Frame, Port, Queue, Wire};
 use planner::bounds;
-use table::{CLASS_PLACES, ROWS, Table};
+use table::{CLASS_PLACES, ROWS, Refusal, Table};
 
 // The port of a table before any call: clock and credits 0, no frames, no instants.
 fn fresh_port(table: Table, bounds: [u64; ROWS]) -> Port
@@ -25,13 +25,9 @@ fn fresh_port(table: Table, bounds: [u64; ROWS]) -> Port
         count: 0,
         frames: [zero; CLASS_PLACES],
     };
-    let best = BestQueue {
+    let best = Queue {
         count: 0,
         frames: [zero; BEST_PLACES],
-    };
-    let none = Last {
-        known: false,
-        taken: 0,
     };
     Port {
         table,
@@ -42,18 +38,23 @@ fn fresh_port(table: Table, bounds: [u64; ROWS]) -> Port
         a: empty,
         b: empty,
         best,
-        last: [none; ROWS],
+        last: [None; ROWS],
         wire: Wire::Free,
     }
 }
 
-// The planner's verdict on a table, and its fresh port, which keeps the bounds. At a refusal every call on the port is refused too.
-pub fn open(t: Table) -> AfterOpening
+// The planner's verdict on a table, and its fresh port, which keeps the bounds, zeros at a refusal. Then every call on the port is refused too.
+pub fn open(t: Table) -> After<Result<(), Refusal>>
     ensures { Opened t result }
 {
-    let sheet = bounds(t);
-    let verdict = sheet.verdict;
-    let kept = sheet.bounds;
-    let port = fresh_port(t, kept);
-    AfterOpening { verdict, port }
+    match bounds(t) {
+        Ok(bounds) => After {
+            answer: Ok(()),
+            port: fresh_port(t, bounds),
+        },
+        Err(r) => After {
+            answer: Err(r),
+            port: fresh_port(t, [0; ROWS]),
+        },
+    }
 }

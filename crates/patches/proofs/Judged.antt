@@ -1,4 +1,5 @@
 -- What the checks of a join and of a leave say of a port, and what they give.
+use Rattle.std.specs.Prelude.{Some, None, Ok}
 use Prim.Native.Nat.{ℕ, ◌≤◌, ◌<◌}
 use mathlib.Core.Bool.{Bool, true, false, ◌&&◌}
 use mathlib.Core.List.{List, map, ◌++◌}
@@ -6,6 +7,7 @@ use mathlib.Core.Path.{◌≡◌, refl, sym, ◌∙◌, ap}
 use borrow.Author.Tests.{lt-ltb, le-ltb}
 use lib.Dec.{ltb}
 use lib.ListN.{length, set, length-map}
+use Rattle.std.specs.declared.option.Option.TheVariants.{None}
 use Rattle.table.specs.declared.Row.{Row}
 use Rattle.table.specs.declared.Table.{Table}
 use Rattle.table.specs.Limits.{most_rows}
@@ -18,15 +20,13 @@ use Rattle.planner.specs.Opening.{slopes_ok, standing}
 use Rattle.planner.proofs.Laws as law
 use Rattle.planner.proofs.Growth as growth
 use Rattle.machine.specs.declared.Denial.{Denial}
-use Rattle.machine.specs.declared.Offer.TheVariants.{Taken, Refused}
-use Rattle.machine.specs.declared.Patch.{Patch}
 use Rattle.machine.specs.declared.Port.{Port}
 use Rattle.machine.specs.State.{never, instant_of, instants_for, kept_of, State, view}
 use Rattle.machine.specs.Record.{sound}
 use Rattle.machine.specs.Calls.{is_open, join_check, quiet, leave_check, join_row, leave_row, number_of, place_of, join, leave}
-use Rattle.machine.specs.Effects.{cleared_at, patched_by, no_patch, Patches}
+use Rattle.machine.specs.Effects.{cleared_at, patched_by, Denied, Patches}
 use Rattle.machine.proofs.FromSound.{clauses, is_accepted_lem}
-use Rattle.machine.proofs.Places.{zero_last, Places, kept_few, worked_out}
+use Rattle.machine.proofs.Places.{Places, kept_few, worked_out}
 use Rattle.patches.proofs.Lists.{map_set, joined_instants, left_instants}
 
 none : (b : Bool) → (b && false) ≡ false
@@ -107,30 +107,30 @@ module _ (p : Port) where
   pub few_rows : sound (view p) ≡ true → p.table.count ≤ most_rows
   few_rows ok = rw (ap (λ (t : Contents). length t.rows) table_of ∙ table.rows_length p.table) at (is_accepted_lem (view p) (clauses (view p) ok)).ranges.most
 
-  -- a refusal changes nothing
-  pub join_refused : (k : ℕ) (r : Row) (d : Denial) {x : Patch} → join_check (view p) k r ≡ refused (number_of d) (place_of d) → x ≡ no_patch (Refused d) p → Patches p (join k r) x
-  join_refused k r d h e = rw e (record { answer = rw h refl; port = rw h refl; table = refl; kept = refl })
+  -- a call that a check refuses is denied
+  pub join_refused : (k : ℕ) (r : Row) (d : Denial) → join_check (view p) k r ≡ refused (number_of d) (place_of d) → Denied p (join k r) d
+  join_refused k r d h = record { answer = rw h refl; port = rw h refl }
 
-  pub leave_refused : (k : ℕ) (d : Denial) {x : Patch} → leave_check (view p) k ≡ refused (number_of d) (place_of d) → x ≡ no_patch (Refused d) p → Patches p (leave k) x
-  leave_refused k d h e = rw e (record { answer = rw h refl; port = rw h refl; table = refl; kept = refl })
+  pub leave_refused : (k : ℕ) (d : Denial) → leave_check (view p) k ≡ refused (number_of d) (place_of d) → Denied p (leave k) d
+  leave_refused k d h = record { answer = rw h refl; port = rw h refl }
 
   -- the bounds that are kept
   bounds_are : (t : Table) (bs rest : List ℕ) → bs ≡ bounds_of (contents t) ++ rest → kept_of t.count bs ≡ bounds_of (contents t)
   bounds_are t bs rest e = let w = worked_out t bs rest e in kept_few t.count bs w.0 ∙ w.1
 
   module _ (places : Places p) where
-    joined_last : (k : ℕ) (r : Row) (t : Table) → k < most_rows → contents t ≡ with_row k r (contents p.table) → instants_for (rows_of t) (map instant_of (cleared_at k p.last)) ≡ instants_for (rows_of t) (set (instants_for (rows_of p.table) (map instant_of p.last)) k never)
+    joined_last : (k : ℕ) (r : Row) (t : Table) → k < most_rows → contents t ≡ with_row k r (contents p.table) → instants_for (rows_of t) (map instant_of (cleared_at (Some k) p.last)) ≡ instants_for (rows_of t) (set (instants_for (rows_of p.table) (map instant_of p.last)) k never)
     unfolding with_row
     joined_last k r t few e =
         let rows : rows_of t ≡ rows_with k r (rows_of p.table) = ap (λ (c : Contents). c.rows) e in
-        rw (rows, lt-ltb k most_rows few, map_set p.last k zero_last) (joined_instants k r (rows_of p.table) (map instant_of p.last) (rw (length-map p.last instant_of, places.last) few))
+        rw (rows, lt-ltb k most_rows few, map_set p.last k None) (joined_instants k r (rows_of p.table) (map instant_of p.last) (rw (length-map p.last instant_of, places.last) few))
 
-    pub join_taken : (k : ℕ) (r : Row) (t : Table) (bs rest : List ℕ) → k < most_rows → join_check (view p) k r ≡ accepted → contents t ≡ with_row k r (contents p.table) → bs ≡ bounds_of (contents t) ++ rest → Patches p (join k r) (record { answer = Taken; table = t; bounds = bs; cleared = k })
+    pub join_taken : (k : ℕ) (r : Row) (t : Table) (bs rest : List ℕ) → k < most_rows → join_check (view p) k r ≡ accepted → contents t ≡ with_row k r (contents p.table) → bs ≡ bounds_of (contents t) ++ rest → Patches p (join k r) (Ok (record { table = t; bounds = bs; cleared = Some k }))
     unfolding join_row view
     join_taken k r t bs rest few check e eb =
         let kept = bounds_are t bs rest eb in
         let last = joined_last k r t few e in
-        let port : view (patched_by (record { answer = Taken; table = t; bounds = bs; cleared = k }) p) ≡ join_row k r (view p) =
+        let port : view (patched_by (record { table = t; bounds = bs; cleared = Some k }) p) ≡ join_row k r (view p) =
         λ i. record { table = e i; bounds = (kept ∙ ap bounds_of e) i; clock = p.clock; credita = p.credita; creditb = p.creditb; a = (view p).a; b = (view p).b; best = (view p).best; last = (last ∙ ap (λ (c : Contents). instants_for c.rows (set (instants_for (rows_of p.table) (map instant_of p.last)) k never)) e) i; wire = p.wire } in
         record { answer = rw check refl; port = rw check port; table = tt; kept = tt }
 
@@ -140,11 +140,11 @@ module _ (p : Port) where
         let rows : rows_of t ≡ rows_without k (rows_of p.table) = ap (λ (c : Contents). c.rows) e in
         rw rows (left_instants (rows_without k (rows_of p.table)) (rows_of p.table) (map instant_of p.last) (table.without_length k (rows_of p.table)) (λ j h. (table.without_before (contents p.table) k j (table.there_used (without_row k (contents p.table)) j h)).1.there))
 
-    pub leave_taken : (k : ℕ) (t : Table) (bs rest : List ℕ) → leave_check (view p) k ≡ accepted → contents t ≡ without_row k (contents p.table) → bs ≡ bounds_of (contents t) ++ rest → Patches p (leave k) (record { answer = Taken; table = t; bounds = bs; cleared = most_rows })
+    pub leave_taken : (k : ℕ) (t : Table) (bs rest : List ℕ) → leave_check (view p) k ≡ accepted → contents t ≡ without_row k (contents p.table) → bs ≡ bounds_of (contents t) ++ rest → Patches p (leave k) (Ok (record { table = t; bounds = bs; cleared = None }))
     unfolding leave_row view
     leave_taken k t bs rest check e eb =
         let kept = bounds_are t bs rest eb in
         let last = left_last k t e in
-        let port : view (patched_by (record { answer = Taken; table = t; bounds = bs; cleared = most_rows }) p) ≡ leave_row k (view p) =
+        let port : view (patched_by (record { table = t; bounds = bs; cleared = None }) p) ≡ leave_row k (view p) =
         λ i. record { table = e i; bounds = (kept ∙ ap bounds_of e) i; clock = p.clock; credita = p.credita; creditb = p.creditb; a = (view p).a; b = (view p).b; best = (view p).best; last = (last ∙ ap (λ (c : Contents). instants_for c.rows (instants_for (rows_of p.table) (map instant_of p.last))) e) i; wire = p.wire } in
         record { answer = rw check refl; port = rw check port; table = tt; kept = tt }

@@ -6,10 +6,10 @@ use mathlib.Core.Path.{◌≡◌, refl, sym, ap}
 use native.Mathlib.Nat.{le_of_suc-le-suc}
 use native.Mathlib.Omega.{arith}
 use lib.ListN.{length, get_or, set, take}
+use Rattle.std.specs.declared.option.Option.{Option}
 use Rattle.table.specs.declared.Row.{Row}
 use Rattle.table.specs.Rows.{no_row, is_there, rows_with, before, trimmed}
 use Rattle.table.proofs.Laws as table
-use Rattle.machine.specs.declared.Last.{Last}
 use Rattle.machine.specs.State.{Instant, never, instant_of, instants_for}
 use Rattle.machine.proofs.Instants.{for_again}
 
@@ -66,7 +66,7 @@ same_twice : (b : Bool) (i : Instant) → cond b i never ≡ cond b (cond b i ne
 same_twice true i = refl
 same_twice false i = refl
 
-pub map_set : (ls : List Last) (k : ℕ) (l : Last) → map instant_of (set ls k l) ≡ set (map instant_of ls) k (instant_of l)
+pub map_set : (ls : List (Option ℕ)) (k : ℕ) (l : Option ℕ) → map instant_of (set ls k l) ≡ set (map instant_of ls) k (instant_of l)
 map_set [] k l = refl
 map_set (x ∷ ls) zero l = refl
 map_set (x ∷ ls) (suc k) l = ap (λ (is : List Instant). instant_of x ∷ is) (map_set ls k l)

@@ -1,51 +1,24 @@
--- What the residence at a number, 0 at an empty one, says of its row: its bound, whether it is late, and what it adds to the frames that a class may have in the port.
+-- What the loop over the rows works out of a row: whether it is late, and that a row that is there has a residence.
 use Prim.Native.Nat.{ℕ, ◌≤◌, ◌<◌}
-use mathlib.Core.Bool.{Bool, true, false, cond, ◌&&◌}
-use mathlib.Core.Path.{◌≡◌, refl, sym, ◌∙◌}
+use mathlib.Core.Bool.{true, false}
+use mathlib.Core.Path.{◌≡◌}
 use native.Mathlib.Omega.{arith}
-use lib.Dec.{leb}
 use borrow.Author.Tests.{le-leb, lt-leb}
-use Rattle.table.specs.declared.Class.{Class}
 use Rattle.table.specs.declared.Row.{Row}
-use Rattle.table.specs.Wire.{ceil_div, period_of}
-use Rattle.table.specs.Rows.{is_there, Contents}
-use Rattle.planner.specs.Sums.{in_class, part}
-use Rattle.planner.specs.Bound.{residence, until_report, bound, most_of, if_there}
-use Rattle.planner.specs.Opening.{timely}
-use Rattle.planner.proofs.Laws.{residence_some}
+use Rattle.table.specs.Rows.{is_there}
+use Rattle.table.proofs.Laws as table
+use Rattle.figures.specs.declared.Lane.{Lane}
+use Rattle.figures.specs.Steps.{time_by}
+use Rattle.planner.specs.Bound.{until_report}
+use Rattle.planner.specs.Steps.{timely_by}
 
--- at an empty number a residence of 0 comes to what the definitions say: a bound of 0, in time, and no frames
-until : (b : Bool) (n : ℕ) → until_report (cond b n 0) ≡ cond b (until_report n) 0
-until true n = refl
-until false n = refl
-
-within : (b : Bool) (n d : ℕ) → cond b (leb n d) true ≡ leb (cond b n 0) d
-within true n d = refl
-within false n d = sym (le-leb 0 d (omega arith))
-
-counted : (a b : Bool) (n p : ℕ) → cond (a && b) (ceil_div (cond b n 0) p) 0 ≡ cond (a && b) (ceil_div n p) 0
-counted true true n p = refl
-counted true false n p = refl
-counted false b n p = refl
-
-module _ (t : Contents) (r : Row) {n : ℕ} (e : n ≡ if_there (residence t) r) where
+module _ (a b : Lane) (r : Row) {n : ℕ} (e : n ≡ time_by a b r) where
   pub some : is_there r ≡ true → 0 < n
-  some h = rw (e, h) (residence_some t r)
+  some h = rw (e, h) (omega (arith, table.size_least r))
 
-  -- a row adds its count
-  pub adds : (c : Class) → part c (λ x. ceil_div n (period_of x)) r ≡ part c (most_of t) r
-  unfolding most_of
-  adds c = rw e (counted (in_class c r) (is_there r) (residence t r) (period_of r))
+  module _ {m : ℕ} (is : m ≡ until_report n) where
+    pub late : r.deadline < m → timely_by a b r ≡ false
+    late h = rw (← e, ← is) (lt-leb _ _ h)
 
-  module _ {b : ℕ} (is : b ≡ until_report n) where
-    pub is_bound : b ≡ if_there (bound t) r
-    unfolding bound
-    is_bound = is ∙ rw e (until (is_there r) (residence t r))
-
-    pub late : r.deadline < b → timely t r ≡ false
-    unfolding timely
-    late h = within (is_there r) (bound t r) r.deadline ∙ rw (← is_bound) (lt-leb _ _ h)
-
-    pub in_time : b ≤ r.deadline → timely t r ≡ true
-    unfolding timely
-    in_time h = within (is_there r) (bound t r) r.deadline ∙ rw (← is_bound) (le-leb _ _ h)
+    pub in_time : m ≤ r.deadline → timely_by a b r ≡ true
+    in_time h = rw (← e, ← is) (le-leb _ _ h)

@@ -11,17 +11,20 @@ use lib.ListN.{length}
 use borrow.Author.Tests.{leb-true, le-leb, lt-leb, ltb-true, ltb-false, eq-eqb, ne_eqb, eqb-true}
 use Rattle.table.specs.declared.Class.{Class}
 use Rattle.table.specs.declared.Class.TheVariants.{A, B}
+use Rattle.std.specs.Prelude.{Result, Ok, Err, is_err}
 use Rattle.table.specs.declared.Row.{Row}
+use Rattle.table.specs.declared.Refusal.{Refusal}
+use Rattle.figures.specs.declared.BothLanes.{BothLanes}
 use Rattle.table.specs.Limits.{D, most_rows, most_slope, most_payload, most_size, least_size, least_period, class_places, left_at_report}
 use Rattle.table.specs.Wire.{ceil_div, wire_size, size_of, period_of, share_of}
 use Rattle.table.specs.Rows.{no_row, is_there, Contents, row_at, InUse}
-use Rattle.table.specs.Checks.{accepted, refused}
+use Rattle.table.specs.Checks.{accepted, refused, outcome_of}
 use Rattle.table.specs.Ranges.{count_ok, header_ok, row_ok, Every, InRange}
 use Rattle.table.proofs.Laws as table
 use Rattle.planner.specs.Sums.{in_class, counts, part, sum_over, max_over, members, largest, total, shares, idle, send, best_size}
 use Rattle.planner.specs.Bound.{blocking, residence_in, residence, bound, most_of, most_in}
 use Rattle.planner.specs.Opening.{used_ok, slopes_ok, shares_ok, timely, room_ok, opening, row_passes, ranged_around, standing, verdict_by, RangesAround, IsAccepted}
-use Rattle.planner.specs.Plan.{lane_of, pick_lane, most_modest, modest, residence_by}
+use Rattle.planner.specs.Plan.{lane_of, Classed, pick_lane, most_modest, modest, residence_by}
 use Rattle.planner.proofs.Members.{sum_at, max_at}
 use Rattle.planner.proofs.Checks.{ranged_by_lem, verdict_passes, slope_limits}
 -- the bound of a row in the list of bounds
@@ -126,6 +129,15 @@ accepted_by gaps t e =
     room_of : room_ok A t ≡ true → room_ok B t ≡ true → (c : Class) → most_in c t ≤ class_places
     room_of a b A = room_at A t a
     room_of a b B = room_at B t b
+
+-- whatever `classes` answers is what the verdict asked for says
+pub accepted_with : (gaps : Bool) (t : Contents) (r : Result BothLanes Refusal) → is_err r ≡ false → Classed gaps t r → verdict_by gaps t ≡ accepted
+accepted_with gaps t (Ok l) e h = h.verdict
+accepted_with gaps t (Err r) e h = absurd (false≢true (sym e))
+
+pub refused_by : (gaps : Bool) (t : Contents) (r : Result BothLanes Refusal) → is_err r ≡ true → Classed gaps t r → (x : Refusal) × (verdict_by gaps t ≡ outcome_of (Err x))
+refused_by gaps t (Ok l) e h = absurd (false≢true e)
+refused_by gaps t (Err r) e h = (r, h)
 
 used_passes : (c : Class) (t : Contents) → (idle c t ≡ 0) ↔ (members c t ≡ 0) → used_ok c t ≡ true
 unfolding used_ok

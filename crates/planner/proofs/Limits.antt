@@ -1,16 +1,15 @@
--- The bound at a number, and what a row at a place of a table record counts for.
+-- The bound at a number, and what a row counts for.
 use Prim.Native.Nat.{ℕ, ◌-◌, ◌≤◌, ◌<◌}
 use mathlib.Core.Bool.{Bool, true}
 use mathlib.Core.List.{List, map, ◌++◌}
 use mathlib.Core.Path.{◌≡◌, refl, ◌∙◌}
 use lib.ListN.{length, get_or, drop, replicate, get_or-append, length-map}
 use lib.Seq.{take-length}
-use Rattle.table.specs.declared.Table.{Table}
 use Rattle.table.specs.Limits.{most_rows}
 use Rattle.table.specs.Wire.{size_of}
-use Rattle.table.specs.Rows.{no_row, is_there, Contents, rows_of, contents, row_at, InUse}
+use Rattle.table.specs.Rows.{no_row, is_there, Contents, row_at, InUse}
 use Rattle.table.specs.Checks.{accepted}
-use Rattle.table.proofs.Laws.{in_use_lem, row_at_lem, same_self}
+use Rattle.table.proofs.Laws.{same_self}
 use Rattle.planner.specs.Sums.{counts, members, total}
 use Rattle.planner.specs.Bound.{bound, if_there, bounds_of, bounds}
 use Rattle.planner.specs.Opening.{verdict_by}
@@ -32,14 +31,14 @@ pub bounds_row : (t : Contents) (k : ℕ) → InUse t k → get_or (bounds t) k 
 unfolding bounds bounds_of
 bounds_row t k u = get_or-append (map (if_there (bound t)) t.rows) (replicate (most_rows - length t.rows) 0) 0 k (rw length-map u.below) ∙ bound_at t k u
 
-module _ (t : Table) (long : length t.rows ≡ 32) (few : t.count ≤ most_rows) (i : ℕ) (h : i < t.count) (there : is_there (get_or t.rows i no_row) ≡ true) where
-  own_class : counts (get_or t.rows i no_row).class (get_or (rows_of t) i no_row) ≡ true
-  own_class = rw (row_at_lem t long few i h, there, same_self (get_or t.rows i no_row).class) refl
+module _ (t : Contents) (k : ℕ) (h : k < length t.rows) (there : is_there (get_or t.rows k no_row) ≡ true) where
+  own_class : counts (get_or t.rows k no_row).class (get_or t.rows k no_row) ≡ true
+  own_class = rw (there, same_self (get_or t.rows k no_row).class) refl
 
-  pub counted : 0 < members (get_or t.rows i no_row).class (contents t)
+  pub counted : 0 < members (get_or t.rows k no_row).class t
   unfolding members
-  counted = sum_at (get_or t.rows i no_row).class (λ r. 1) (rows_of t) i no_row (in_use_lem t long few i h there).below own_class
+  counted = sum_at (get_or t.rows k no_row).class (λ r. 1) t.rows k no_row h own_class
 
-  pub summed : size_of (get_or t.rows i no_row) ≤ total (get_or t.rows i no_row).class (contents t)
+  pub summed : size_of (get_or t.rows k no_row) ≤ total (get_or t.rows k no_row).class t
   unfolding total
-  summed = rw (row_at_lem t long few i h) at (sum_at (get_or t.rows i no_row).class size_of (rows_of t) i no_row (in_use_lem t long few i h there).below own_class)
+  summed = sum_at (get_or t.rows k no_row).class size_of t.rows k no_row h own_class

@@ -2,21 +2,21 @@
 use Prim.Native.Nat.{ℕ, ◌≤◌, ◌<◌}
 use mathlib.Core.Bool.{Bool, true, false}
 use mathlib.Core.List.{List, [], ◌∷◌}
-use mathlib.Core.Path.{◌≡◌, refl, sym}
+use mathlib.Core.Path.{◌≡◌, refl}
 use lib.ListN.{length}
 use borrow.Author.Tests.{le-leb, lt-leb}
 use Rattle.table.specs.declared.Class.TheVariants.{A, B}
 use Rattle.table.specs.declared.Refusal.{Refusal}
-use Rattle.table.specs.declared.Verdict.TheVariants.{Accepted}
+use Rattle.std.specs.Prelude.{Result, Ok, Err, IsErrAnd}
 use Rattle.table.specs.Limits.{header_place}
 use Rattle.table.specs.Rows.{Contents}
 use Rattle.table.specs.Checks.{accepted, refused, number_of, place_of, unless, passing, unless_row, first}
 use Rattle.table.specs.Ranges.{count_ok, header_ok, ranged}
 use Rattle.figures.specs.declared.Lane.{Lane}
-use Rattle.planner.specs.declared.Classes.{Classes}
+use Rattle.figures.specs.declared.BothLanes.{BothLanes}
 use Rattle.planner.specs.Opening.{slopes_ok, shares_ok, timely, room_ok, fair_checks, opening, ranged_around, standing, passes_by, ranged_by, verdict_by}
 use Rattle.planner.specs.Plan.{lane_of, Classed, filled_to, bounds_for, BoundsIn}
-use Rattle.planner.specs.Steps.{refused_classes, Passed}
+use Rattle.planner.specs.Steps.{Passed}
 
 -- whichever verdict is asked for, these are its checks
 ranges : (gaps : Bool) (t : Contents) → ranged_by gaps t ≡ first (unless (count_ok t.rows) 3 0 ∷ unless (header_ok t.header) 5 header_place ∷ unless_row (passes_by gaps) t.rows 5 ∷ [])
@@ -30,11 +30,16 @@ checks false t = refl
 checks true t = refl
 
 module _ (gaps : Bool) (t : Contents) where
-  pub refused_right : (xs : List ℕ) (r : Refusal) {p : Classes} {ys : List ℕ} → verdict_by gaps t ≡ refused (number_of r) (place_of r) → p ≡ refused_classes r → ys ≡ filled_to (bounds_for (refused (number_of r) (place_of r)) t) t xs → Classed gaps t p × BoundsIn gaps t xs ys
-  refused_right xs r e f h = (rw f (record { verdict = sym e; a = rw e refl; b = rw e refl }), rw e h)
+  pub refused_right : (xs : List ℕ) (r : Refusal) {ys : List ℕ} → verdict_by gaps t ≡ refused (number_of r) (place_of r) → ys ≡ filled_to (bounds_for (refused (number_of r) (place_of r)) t) t xs → Classed gaps t (Err r) × BoundsIn gaps t xs ys
+  refused_right xs r e h = (e, rw e h)
 
-  pub accepted_right : (xs : List ℕ) {a b : Lane} {ys : List ℕ} → verdict_by gaps t ≡ accepted → a ≡ lane_of A t → b ≡ lane_of B t → ys ≡ filled_to (length t.rows) t xs → Classed gaps t (record { verdict = Accepted; a = a; b = b }) × BoundsIn gaps t xs ys
-  accepted_right xs e ea eb h = (record { verdict = sym e; a = rw e ea; b = rw e eb }, rw e h)
+  -- the refusal that `?` hands on
+  pub handed_on : (xs : List ℕ) (q : Result BothLanes Refusal) (r : Refusal) {e : Refusal} {ys : List ℕ} → IsErrAnd q (λ y. y ≡ e) → e ≡ r → verdict_by gaps t ≡ refused (number_of r) (place_of r) → ys ≡ filled_to (bounds_for (refused (number_of r) (place_of r)) t) t xs → Classed gaps t q × BoundsIn gaps t xs ys
+  handed_on xs (Ok l) r a f e h = absurd a
+  handed_on xs (Err y) r a f e h = rw (a, f) (refused_right xs r e h)
+
+  pub accepted_right : (xs : List ℕ) {a b : Lane} {ys : List ℕ} → verdict_by gaps t ≡ accepted → a ≡ lane_of A t → b ≡ lane_of B t → ys ≡ filled_to (length t.rows) t xs → Classed gaps t (Ok (record { a = a; b = b })) × BoundsIn gaps t xs ys
+  accepted_right xs e ea eb h = (record { verdict = e; a = ea; b = eb }, rw e h)
 
   pub by_count : count_ok t.rows ≡ false → verdict_by gaps t ≡ refused 3 0
   by_count e = rw (checks gaps t, ranges gaps t, e) refl

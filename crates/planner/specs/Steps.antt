@@ -1,38 +1,43 @@
 -- What the planner's private functions promise each other. No public promise cites this file.
-use Rattle.std.specs.Prelude.{◌≤◌, Bool, true, ◌≡◌, length}
+use Rattle.std.specs.Prelude.{ℕ, ◌≤◌, Bool, true, List, map, ◌++◌, ◌≡◌, leb, length, take, drop, ◌<◌, Result, Ok, Err}
 use Rattle.table.specs.declared.Class.{Class}
 use Rattle.table.specs.declared.Class.TheVariants.{A, B}
 use Rattle.table.specs.declared.Refusal.{Refusal}
-use Rattle.table.specs.declared.Verdict.TheVariants.{Refused}
+use Rattle.table.specs.declared.Refusal.TheVariants.{Value, Deadline}
+use Rattle.table.specs.declared.Row.{Row}
 use Rattle.table.specs.Limits.{most_rows}
+use Rattle.table.specs.Wire.{ceil_div, size_of, period_of, share_of}
 use Rattle.table.specs.Rows.{Contents}
 use Rattle.table.specs.Checks.{accepted, passing}
 use Rattle.figures.specs.declared.Figures.{Figures}
 use Rattle.figures.specs.declared.Lane.{Lane}
-use Rattle.figures.specs.Steps.{Small, Modest}
-use Rattle.planner.specs.declared.Classes.{Classes}
+use Rattle.figures.specs.Steps.{Small, Modest, time_by}
 use Rattle.planner.specs.declared.Totals.{Totals}
-use Rattle.planner.specs.declared.Judgement.{Judgement}
-use Rattle.planner.specs.Sums.{members, largest, total, shares}
-use Rattle.planner.specs.Bound.{most_in}
-use Rattle.planner.specs.Opening.{used_ok, slopes_ok, shares_ok, timely, passes_by, ranged_by}
-use Rattle.planner.specs.Plan.{lane_of, no_lane}
+use Rattle.planner.specs.declared.FrameCounts.{FrameCounts}
+use Rattle.planner.specs.Sums.{sum_over, max_over, members, largest, total, shares}
+use Rattle.planner.specs.Bound.{until_report}
+use Rattle.planner.specs.Opening.{used_ok, slopes_ok, shares_ok, passes_by, ranged_by}
+use Rattle.planner.specs.Plan.{lane_of}
 
 -- A class's figures, in one record.
 abbrev pub figures_of : Class → Contents → Figures
 figures_of c t = record { members = members c t; largest = largest c t; total = total c t; shares = shares c t }
 
--- A refusal, with zeros for figures.
-abbrev pub refused_classes : Refusal → Classes
-refused_classes r = record { verdict = Refused r; a = no_lane; b = no_lane }
+-- The figures of a class over some rows.
+abbrev pub figures_in : Class → List Row → Figures
+figures_in c rs = record { members = sum_over c (λ r. 1) rs; largest = max_over c size_of rs; total = sum_over c size_of rs; shares = sum_over c share_of rs }
 
--- How many rows are in range before the first that is not, and both classes' figures if that is all the rows.
-pub record TotalsOf (gaps : Bool) (t : Contents) (r : Totals) : Type 0 where
-  pub passed : r.passed ≡ passing (passes_by gaps) t.rows
-  pub a : length t.rows ≤ r.passed → r.a ≡ figures_of A t
-  pub b : length t.rows ≤ r.passed → r.b ≡ figures_of B t
-  pub small_a : Small most_rows r.a
-  pub small_b : Small most_rows r.b
+-- Both classes' figures over rows that are in range, or the first row that is not.
+pub record AllIn (gaps : Bool) (rs : List Row) (s : Totals) : Type 0 where
+  pub passed : length rs ≤ passing (passes_by gaps) rs
+  pub a : s.a ≡ figures_in A rs
+  pub b : s.b ≡ figures_in B rs
+  pub small_a : Small most_rows s.a
+  pub small_b : Small most_rows s.b
+
+abbrev pub TotalsOf : Bool → List Row → Result Totals Refusal → Type 0
+TotalsOf gaps rs (Ok s) = AllIn gaps rs s
+TotalsOf gaps rs (Err r) = (passing (passes_by gaps) rs < length rs) × (r ≡ Value (passing (passes_by gaps) rs))
 
 -- The figures of both classes.
 pub record Summed (t : Contents) (a b : Figures) : Type 0 where
@@ -48,11 +53,29 @@ pub record Passed (gaps : Bool) (t : Contents) : Type 0 where
   pub shares_a : shares_ok A t ≡ true
   pub shares_b : shares_ok B t ≡ true
 
--- How many rows are in time before the first that is not, and what the classes' frames come to if that is all the rows.
-pub record JudgementOf (t : Contents) (r : Judgement) : Type 0 where
-  pub timely : r.timely ≡ passing (timely t) t.rows
-  pub a : length t.rows ≤ r.timely → r.a ≡ most_in A t
-  pub b : length t.rows ≤ r.timely → r.b ≡ most_in B t
+-- What two classes make of a row: its bound, whether that is within its deadline, and how many of its frames may be in the port.
+abbrev pub bound_by : Lane → Lane → Row → ℕ
+bound_by a b r = until_report (time_by a b r)
+
+abbrev pub timely_by : Lane → Lane → Row → Bool
+timely_by a b r = leb (bound_by a b r) r.deadline
+
+abbrev pub most_by : Lane → Lane → Row → ℕ
+most_by a b r = ceil_div (time_by a b r) (period_of r)
+
+-- The bounds of the first n rows at the front of some places.
+abbrev pub filled_by : Lane → Lane → List Row → ℕ → List ℕ → List ℕ
+filled_by a b rs n places = map (bound_by a b) (take n rs) ++ drop n places
+
+-- What the classes' frames come to over rows that are in time, or the first row that is late.
+pub record AllTimely (a b : Lane) (rs : List Row) (n : FrameCounts) : Type 0 where
+  pub timely : length rs ≤ passing (timely_by a b) rs
+  pub ofa : n.a ≡ sum_over A (most_by a b) rs
+  pub ofb : n.b ≡ sum_over B (most_by a b) rs
+
+abbrev pub JudgementOf : Lane → Lane → List Row → Result FrameCounts Refusal → Type 0
+JudgementOf a b rs (Ok n) = AllTimely a b rs n
+JudgementOf a b rs (Err r) = (passing (timely_by a b) rs < length rs) × (r ≡ Deadline (passing (timely_by a b) rs))
 
 -- Both classes of a table whose slopes are 0 exactly where a class has no row.
 pub record Lanes (t : Contents) (a b : Lane) : Type 0 where

@@ -11,62 +11,36 @@ pub mod acceptance;
 mod sums;
 
 use crate::acceptance::classes;
-use figures::{Figures, Lane};
-use table::{ROWS, Table, Verdict};
+use figures::Figures;
+use table::{ROWS, Refusal, Table};
 
-// How many rows are in range before the first that is not, and both classes' figures over the rows up to there.
+// Both classes' figures over some rows.
 #[derive(Clone, Copy)]
 struct Totals {
-    passed: usize,
     a: Figures,
     b: Figures,
 }
 
-// How many rows are in time before the first that is not; where all are, how many frames each class may have in the port.
+// How many frames each class may have in the port.
 #[derive(Clone, Copy)]
-struct Judgement {
-    timely: usize,
+struct FrameCounts {
     a: u64,
     b: u64,
 }
 
-// A verdict, and of an accepted table its classes; zeros at a refusal.
-#[derive(Clone, Copy)]
-pub struct Classes {
-    pub verdict: Verdict,
-    pub a: Lane,
-    pub b: Lane,
-}
-
-// A verdict with the 32 bounds: 0 in each place behind the last row, and all 0 at a refusal.
-#[derive(Clone, Copy)]
-pub struct Sheet {
-    pub verdict: Verdict,
-    pub bounds: [u64; ROWS],
-}
-
 // Whether a table may be opened, or why not.
-pub fn opening(t: Table) -> Verdict
+pub fn opening(t: Table) -> Result<(), Refusal>
     ensures { outcome_of result ≡ opening (contents t) }
 {
-    bounds(t).verdict
+    bounds(t)?;
+    Ok(())
 }
 
-// The bounds of a table's rows.
-pub fn bounds(t: Table) -> Sheet
+// The 32 bounds of a table, 0 in each place behind the last row, or why it may not be opened.
+pub fn bounds(t: Table) -> Result<[u64; ROWS], Refusal>
     ensures { Shown (contents t) result }
 {
     let mut out = [0u64; ROWS];
-    let made = classes(&mut out, t, false);
-    let verdict = made.verdict;
-    if let Verdict::Refused(_) = verdict {
-        return Sheet {
-            verdict,
-            bounds: [0; ROWS],
-        };
-    }
-    Sheet {
-        verdict,
-        bounds: out,
-    }
+    classes(&mut out, t, false)?;
+    Ok(out)
 }

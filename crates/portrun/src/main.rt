@@ -17,9 +17,7 @@ use std::io::{Read, Write};
 fn stopped(run: Run) -> Run
     ensures { result ≡ stopped run }
 {
-    let mut r = run;
-    r.live = false;
-    r
+    Run { live: false, ..run }
 }
 
 // Writes a text. Where it cannot be written, the run stops.
@@ -39,9 +37,7 @@ fn fed(rt: &HostRuntime, run: Run, s: &[u8]) -> Run
 {
     let mut out = [0u8; 65536];
     let a = answer_all(run, s, &mut out);
-    let n = a.count;
-    let next = a.run;
-    written(rt, next, &out[..n])
+    written(rt, a.run, &out[..a.count])
 }
 
 // The last line may lack its newline: the input's end ends it.
@@ -66,19 +62,16 @@ fn turn(rt: &HostRuntime, run: Run) -> Run
     }
 }
 
-// A proved loop has to end, and nothing says that the input does: the turns are counted down from a number that no run
-// uses up.
+// A proved loop has to end, and nothing says that the input does: so there are as many turns as no run uses up.
 fn calls(rt: &HostRuntime, first: Run) -> Run
     ensures { LedOn first.port.table (standing first) result }
 {
     let mut run = first;
-    let mut turns = u64::MAX;
-    while turns > 0 {
+    for _ in 0..u64::MAX {
         if !run.live {
-            return run;
+            break;
         }
         run = turn(rt, run);
-        turns -= 1;
     }
     run
 }
@@ -89,9 +82,7 @@ fn played(rt: &HostRuntime, file: &[u8]) -> Run
 {
     let mut out = [0u8; 4096];
     let a = begin(file, &mut out);
-    let n = a.count;
-    let first = a.run;
-    calls(rt, written(rt, first, &out[..n]))
+    calls(rt, written(rt, a.run, &out[..a.count]))
 }
 
 // A table file has at most 399 bytes, so a longer one is refused by what these bytes hold.

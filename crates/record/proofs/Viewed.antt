@@ -7,11 +7,10 @@ use native.Mathlib.Nat.{lt_of_not-le, le_of_suc-le-suc}
 use native.Mathlib.Omega.{arith}
 use lib.ListN.{length, get_or, take}
 use borrow.Author.Tests.{le-leb}
+use Rattle.std.specs.Prelude.{Err}
 use Rattle.table.specs.declared.Class.TheVariants.{A, B}
 use Rattle.table.specs.declared.Refusal.{Refusal}
 use Rattle.table.specs.declared.Table.{Table}
-use Rattle.table.specs.declared.Verdict.{Verdict}
-use Rattle.table.specs.declared.Verdict.TheVariants.{Refused}
 use Rattle.table.specs.Limits.{most_rows}
 use Rattle.table.specs.Rows.{no_row, is_there, contents, count_right}
 use Rattle.table.specs.Checks.{accepted, outcome_of}
@@ -89,6 +88,6 @@ module _ (p : Port) where
     unfolding view bounds_sound
     by_bounds out rest e q = rw (kept_few p.table.count p.bounds (rw places.bounds (few p.table o)), ← (worked_out p.table out rest e).1) q
 
-  pub refused_table : {v : Verdict} {r : Refusal} → outcome_of v ≡ standing (contents p.table) → v ≡ Refused r → table_sound (view p) ≡ false
+  pub refused_table : (r : Refusal) → standing (contents p.table) ≡ outcome_of (Err r) → table_sound (view p) ≡ false
   unfolding view table_sound
-  refused_table e f = rw (← e, f) refl
+  refused_table r e = rw e refl

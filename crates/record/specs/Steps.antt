@@ -1,8 +1,7 @@
 -- What the private functions of the record check promise each other. No public promise cites this file.
-use Rattle.std.specs.Prelude.{ℕ, ◌≤◌, Bool, cond, ◌&&◌, List, [], ◌∷◌, ◌++◌, ◌≡◌, eqb, length, take}
+use Rattle.std.specs.Prelude.{ℕ, ◌≤◌, Bool, cond, ◌&&◌, List, [], ◌∷◌, ◌++◌, ◌≡◌, eqb, length, take, Option}
 use Rattle.table.specs.declared.Class.TheVariants.{A, B}
 use Rattle.planner.specs.Sums.{best_size}
-use Rattle.machine.specs.declared.Last.{Last}
 use Rattle.machine.specs.declared.Port.{Port}
 use Rattle.machine.specs.State.{Instant, never, instant_of, State, view}
 use Rattle.machine.specs.Record.{all_of, on_sending, sending, each_row, clock_sound, credit_sound, rows_taken}
@@ -22,10 +21,10 @@ unfoldable pub waiting_test : List ℕ → State → Bool
 waiting_test limits s = all_of (frame_test A s.table limits s.clock) s.a && all_of (frame_test B s.table limits s.clock) s.b
 
 -- The instants of numbers by their bounds: one without a bound is empty, and has none.
-abbrev pub instant_if : ℕ → Last → Instant
+abbrev pub instant_if : ℕ → Option ℕ → Instant
 instant_if bound l = cond (eqb bound 0) never (instant_of l)
 
-unfoldable pub instants_by : List ℕ → List Last → List Instant
+unfoldable pub instants_by : List ℕ → List (Option ℕ) → List Instant
 instants_by [] ls = []
 instants_by (b ∷ bs) [] = never ∷ instants_by bs []
 instants_by (b ∷ bs) (l ∷ ls) = instant_if b l ∷ instants_by bs ls

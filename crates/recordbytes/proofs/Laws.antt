@@ -1,6 +1,6 @@
 -- What the crates above may cite.
-pub use Rattle.recordbytes.proofs.Signs.{word_plain, fits_up, word_up, fits_turned, fits_down, below_top, word_down, plain, not_negative, negative_fits, negative}
-pub use Rattle.recordbytes.proofs.Lists.{each_none, each_next, each_fails, gathered_at}
+pub use Rattle.recordbytes.proofs.Signs.{plain}
+pub use Rattle.recordbytes.proofs.Lists.{gathered_at}
 pub use Rattle.recordbytes.proofs.Marks.{marked_length, marked_at}
 pub use Rattle.recordbytes.proofs.Owned.{owned_numbered}
 pub use Rattle.recordbytes.proofs.Carried.{EffectFits, owned_effect, carried_fits}

@@ -1,10 +1,8 @@
 -- What holds of every element of a list, and tests of n things.
 use Prim.Native.Nat.{ℕ, zero, suc, ◌+◌, ◌*◌, ◌<◌}
-use mathlib.Core.Bool.{Bool, true, false, ◌&&◌}
-use mathlib.Core.Bool as bool
+use mathlib.Core.Bool.{Bool, true}
 use mathlib.Core.List.{List, [], ◌∷◌, ◌++◌, map}
-use mathlib.Core.Path.{◌≡◌, refl, sym, ◌∙◌, ap}
-use native.Mathlib.Numerals.{add-one}
+use mathlib.Core.Path.{◌≡◌, refl, ◌∙◌, ap}
 use native.Mathlib.Omega.{arith}
 use lib.ListN.{length, get_or, take, replicate}
 use Rattle.table.proofs.Laws.{and-true}
@@ -37,31 +35,6 @@ module _ {X : Type 0} (P : X → Type 0) where
 pub true_each : (bs : List Bool) → Each bs → all_true bs ≡ true
 true_each [] h = refl
 true_each (b ∷ bs) h = rw h.0 (true_each bs h.1)
-
--- ---- tests of n things
--- one thing more
-each_suc : (ok : ℕ → Bool) (size k i : ℕ) → each ok size k (suc i) ≡ (each ok size k i && ok (k + size * i))
-unfolding each
-each_suc ok size k zero = let z : k + size * 0 ≡ k = omega arith in rw z (bool.and-true (ok k))
-each_suc ok size k (suc i) =
-    let z : k + size + size * i ≡ k + size * suc i = omega arith in
-    rw (each_suc ok size (k + size) i, z) (sym (bool.and_assoc (ok k) (each ok size (k + size) i) (ok (k + size * suc i))))
-
-pub each_none : (ok : ℕ → Bool) (size k : ℕ) → each ok size k 0 ≡ true
-unfolding each
-each_none ok size k = refl
-
-pub each_next : (ok : ℕ → Bool) (size k i : ℕ) → each ok size k i ≡ true → ok (k + size * i) ≡ true → each ok size k (i + 1) ≡ true
-each_next ok size k i e f = rw (add-one i) (each_suc ok size k i ∙ both e f)
-
--- one that fails
-pub each_fails : (ok : ℕ → Bool) (size k i n : ℕ) → i < n → ok (k + size * i) ≡ false → each ok size k n ≡ false
-unfolding each
-each_fails ok size k i zero h e = absurd (omega arith)
-each_fails ok size k zero (suc n) h e = let z : k + size * 0 ≡ k = omega arith in rw (rw z at e) refl
-each_fails ok size k (suc i) (suc n) h e =
-    let z : k + size * suc i ≡ k + size + size * i = omega arith in
-    rw (each_fails ok size (k + size) i n (omega arith) (rw z at e)) (bool.and-false (ok k))
 
 -- the thing of number i
 pub gathered_at : {X : Type 0} (f : ℕ → X) (size k n i : ℕ) (d : X) → i < n → get_or (gathered f size k n) i d ≡ f (k + size * i)

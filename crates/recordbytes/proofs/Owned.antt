@@ -1,5 +1,4 @@
 -- What owning a port record tells of its parts: every number fits its field.
-use mathlib.Core.Bool.{Bool, true, false, cond}
 use mathlib.Core.List.{List, [], ◌∷◌, map}
 use native.Mathlib.Omega.{arith}
 use lib.ListN.{length, take}
@@ -13,6 +12,9 @@ use denote.Array.{each}
 use denote.Plain.{UInt}
 use mir.Syntax.{w64}
 use Prim.Native.Nat.{ℕ, ◌-◌}
+use Rattle.std.specs.declared.option.Option.{Option}
+use Rattle.std.specs.declared.option.Option.TheVariants.{Some, None}
+use Rattle.std.specs.contracts.option.Option as option
 use Rattle.table.specs.declared.Pace.{Pace}
 use Rattle.table.specs.declared.Pace.TheVariants.{Period, Rated}
 use Rattle.table.specs.declared.Row.{Row}
@@ -21,15 +23,13 @@ use Rattle.table.specs.Rows.{no_row, rows_of}
 use Rattle.machine.specs.declared.Frame.{Frame}
 use Rattle.machine.specs.declared.Wire.{Wire}
 use Rattle.machine.specs.declared.Wire.TheVariants.{Free, Sending}
-use Rattle.machine.specs.declared.Last.{Last}
 use Rattle.machine.specs.declared.Port.{Port}
-use Rattle.machine.specs.State.{never, at, no_frame, waiting, instant_of, instants_of, kept_of, view}
+use Rattle.machine.specs.State.{no_frame, waiting, instant_of, instants_of, kept_of, view}
 use Rattle.table.specs.contracts.Pace as pace
 use Rattle.table.specs.contracts.Row as row
 use Rattle.table.specs.contracts.Table as table
 use Rattle.machine.specs.contracts.Frame as frame
 use Rattle.machine.specs.contracts.Wire as wire
-use Rattle.machine.specs.contracts.Last as last
 use Rattle.machine.specs.contracts.Port as port
 use Rattle.words.specs.Words.{Every, Word}
 use Rattle.rowbytes.specs.Fits.{PaceFits, RowFits}
@@ -47,11 +47,12 @@ row_owned r vs e = record { payload = e.1.1.1.1.0.1; pace = pace_owned r.pace _ 
 pub frame_owned : (x : Frame) (vs : List Val) → Is (struct.row frame.the_type) x vs → FrameFits x
 frame_owned x vs e = record { source = e.1.1.0.1; size = e.1.1.1.0.1; taken = e.1.1.1.1.0.1 }
 
-abbrev pub LastFits : Last → Type 0
-LastFits l = Word l.taken
+abbrev pub LastFits : Option ℕ → Type 0
+LastFits l = InstantFits (instant_of l)
 
-last_owned : (l : Last) (vs : List Val) → Is (struct.row last.the_type) l vs → LastFits l
-last_owned l vs e = e.1.1.1.0.1
+last_owned : (l : Option ℕ) (vs : List Val) → Is (option.the_row (UInt w64)) l vs → LastFits l
+last_owned None vs e = tt
+last_owned (Some k) vs e = e.1.1.1.1.0.1
 
 pub wire_owned : (w : Wire) (vs : List Val) → Is (enum.row wire.the_type) w vs → WireFits w
 wire_owned Free vs e = tt
@@ -66,15 +67,8 @@ every_owned own P f (x ∷ xs) (u ∷ us) e = (f x (u ∷ []) e.0, every_owned o
 waiting_fits : (n : ℕ) (fs : List Frame) → Every FrameFits fs → Every FrameFits (waiting n fs)
 waiting_fits n fs f = every_append FrameFits (take n fs) _ (every_take FrameFits n fs f) (every_same FrameFits (n - length fs) no_frame (record { source = omega arith; size = omega arith; taken = omega arith }))
 
-instant_fits : (l : Last) → LastFits l → InstantFits (instant_of l)
-instant_fits l h = go l.known
-  where
-    go : (b : Bool) → InstantFits (cond b (at l.taken) never)
-    go true = h
-    go false = tt
-
-pub instants_fit : (rs : List Row) (ls : List Last) → Every LastFits ls → Every InstantFits (instants_of rs ls)
-instants_fit rs ls f = for_fits rs (map instant_of ls) (every_map InstantFits instant_of LastFits instant_fits ls f)
+pub instants_fit : (rs : List Row) (ls : List (Option ℕ)) → Every LastFits ls → Every InstantFits (instants_of rs ls)
+instants_fit rs ls f = for_fits rs (map instant_of ls) (every_map InstantFits instant_of LastFits (λ l h. h) ls f)
 
 pub kept_fits : (n : ℕ) (ws : List ℕ) → Every Word ws → Every Word (kept_of n ws)
 unfolding kept_of
@@ -97,7 +91,7 @@ table_owned t vs e =
 
 -- every port that a program holds
 pub lasts_owned : (p : Port) (vs : List Val) → Is (struct.row port.the_type) p vs → Every LastFits p.last
-lasts_owned p vs e = every_owned (struct.row last.the_type).own_val LastFits last_owned p.last e.1.1.1.1.1.1.1.1.1.0.0 e.1.1.1.1.1.1.1.1.1.0.1.1
+lasts_owned p vs e = every_owned (option.the_row (UInt w64)).own_val LastFits last_owned p.last e.1.1.1.1.1.1.1.1.1.0.0 e.1.1.1.1.1.1.1.1.1.0.1.1
 
 pub owned_numbered : (p : Port) (vs : List Val) → Is (struct.row port.the_type) p vs → Numbered (view p)
 unfolding view

@@ -1,4 +1,5 @@
 -- A row that joins or leaves: what is written of the table, the last instants and the bounds is all that the port, written over a record's bytes, changes; and a record can hold that port.
+use Rattle.std.specs.Prelude.{Option, Some, None}
 use Prim.Native.Nat.{ℕ, zero, suc, ◌≤◌}
 use mathlib.Core.Bool.{Bool, true, false, cond}
 use mathlib.Core.List.{List, [], ◌∷◌}
@@ -11,13 +12,14 @@ use denote.Plain.{UInt}
 use mir.Syntax.{w64}
 use denote.Laws.{Is}
 use denote.Struct.Declared as struct
+use Rattle.std.specs.declared.option.Option.{Option}
+use Rattle.std.specs.declared.option.Option.TheVariants.{None}
 use Rattle.table.specs.Limits.{most_rows, class_places}
 use Rattle.table.specs.Rows.{rows_of, Contents, contents}
-use Rattle.machine.specs.declared.Last.{Last}
 use Rattle.machine.specs.declared.Patch.{Patch}
 use Rattle.machine.specs.declared.Port.{Port}
 use Rattle.machine.specs.Limits.{best_places}
-use Rattle.machine.specs.State.{Instant, zero_last, instants_of, kept_of, State, view, Placed}
+use Rattle.machine.specs.State.{Instant, instants_of, kept_of, State, view, Placed}
 use Rattle.machine.specs.Effects.{cleared_at, patched_by}
 use Rattle.machine.specs.contracts.Patch as patch
 use Rattle.machine.specs.contracts.Port as port
@@ -74,15 +76,16 @@ module _ (s : List ℕ) (b : Bytes s) (ok : is_record s ≡ true) where
       over_with t bounds last ∙ ap (λ (y : State). record_over (with t bounds last y) s) (sym e)
 
 -- every number of that port fits its field
-cleared_fits : (k : ℕ) (ls : List Last) → Every LastFits ls → Every LastFits (cleared_at k ls)
-cleared_fits k ls f = go (ltb k most_rows)
+cleared_fits : (c : Option ℕ) (ls : List (Option ℕ)) → Every LastFits ls → Every LastFits (cleared_at c ls)
+cleared_fits None ls f = f
+cleared_fits (Some k) ls f = go (ltb k most_rows)
   where
-    one : (i : ℕ) (l : List Last) → Every LastFits l → Every LastFits (set l i zero_last)
+    one : (i : ℕ) (l : List (Option ℕ)) → Every LastFits l → Every LastFits (set l i None)
     one i [] h = tt
-    one zero (y ∷ l) h = (omega arith, h.1)
+    one zero (y ∷ l) h = (tt, h.1)
     one (suc i) (y ∷ l) h = (h.0, one i l h.1)
 
-    go : (c : Bool) → Every LastFits (cond c (set ls k zero_last) ls)
+    go : (c : Bool) → Every LastFits (cond c (set ls k None) ls)
     go true = one k ls f
     go false = f
 
@@ -90,11 +93,11 @@ pub owned_patched : (q : Port) (vs : List Val) → Is (struct.row port.the_type)
 unfolding view
 owned_patched q vs o x us e =
     let n : Numbered (view q) = owned_numbered q vs o in
-    let t : TableFits x.table = table_owned x.table _ e.1.1.1.0 in
+    let t : TableFits x.table = table_owned x.table _ e.1.1.0 in
     record {
       header = t.header;
       rows = t.rows;
-      bounds = kept_fits x.table.count x.bounds (every_owned (UInt w64).own_val Word (λ w vs e. e.1) x.bounds _ e.1.1.1.1.0.1.1);
+      bounds = kept_fits x.table.count x.bounds (every_owned (UInt w64).own_val Word (λ w vs e. e.1) x.bounds _ e.1.1.1.0.1.1);
       clock = n.clock;
       credita = n.credita;
       creditb = n.creditb;

@@ -49,10 +49,3 @@ pub const COUNT_PLACE: usize = HEAD_START + 4;
 pub const RECORD_WIDTH: usize = WIRE_START + WIRE_WIDTH;
 
 pub const RECORD_SIZE: usize = 8 * RECORD_WIDTH;
-
-// What bytes are read as: whether they are a record, and the port that their words name.
-#[derive(Clone, Copy)]
-pub struct Reading {
-    pub readable: bool,
-    pub port: machine::Port,
-}

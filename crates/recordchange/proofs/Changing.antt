@@ -1,15 +1,16 @@
 -- What a call changes of a record's bytes is all that its port, written over them, changes.
+use Rattle.std.specs.Prelude.{Option, Some, None}
 use Prim.Native.Nat.{ℕ, ◌+◌, ◌*◌, ◌≤◌, ◌<◌}
 use mathlib.Core.Bool.{true}
 use mathlib.Core.List.{List, [], ◌∷◌, ◌++◌}
 use mathlib.Core.Path.{◌≡◌, refl, sym, ◌∙◌, ap}
 use native.Mathlib.Omega.{arith}
 use lib.ListN.{length, set}
-use borrow.Author.Tests.{lt-ltb, le-leb, lt-leb}
+use borrow.Author.Tests.{lt-ltb, le-leb}
 use Rattle.table.specs.Limits.{most_rows, class_places}
 use Rattle.machine.specs.declared.Frame.{Frame}
 use Rattle.machine.specs.declared.Change.{Change}
-use Rattle.machine.specs.declared.Change.TheVariants.{None, LeftA, LeftB, LeftBest, JoinedA, JoinedB, JoinedBest}
+use Rattle.machine.specs.declared.Change.TheVariants.{LeftA, LeftB, LeftBest, JoinedA, JoinedB, JoinedBest}
 use Rattle.machine.specs.declared.Effect.{Effect}
 use Rattle.machine.specs.Limits.{best_places}
 use Rattle.machine.specs.State.{at, State, Placed}
@@ -92,27 +93,27 @@ module _ (s : List ℕ) (b : Bytes s) (ok : is_record s ≡ true) (e : Effect) w
     bound_kept h = bounds_kept r room p few st h
 
   -- ---- the whole record
-  pub over_by : (c : Change) → Room c p → stored (changed_over c t) wire_start (wire_words e.wire) ≡ record_over (moved_to e (changed_by c p)) s
+  pub over_by : (c : Option Change) → Room c p → stored (changed_over c t) wire_start (wire_words e.wire) ≡ record_over (moved_to e (changed_by c p)) s
   unfolding record_over
   over_by None r = rw (table_kept, a_kept behind (omega arith), b_kept behind (omega arith), best_kept behind (omega arith), last_kept behind (omega arith), bound_kept behind (omega arith)) refl
-  over_by LeftA r =
+  over_by (Some LeftA) r =
       let u : Rest queueb_start s (queue_over queuea_start class_places (behind_head p.a) t) = queue_rest behind (behind_head p.a) queuea_start class_places queueb_start (omega arith) (omega arith) in
       rw (left_is p.a queuea_start class_places (omega arith) a_is r, table_kept, b_kept u (omega arith), best_kept u (omega arith), last_kept u (omega arith), bound_kept u (omega arith)) refl
-  over_by LeftB r =
+  over_by (Some LeftB) r =
       let u : Rest best_start s (queue_over queueb_start class_places (behind_head p.b) t) = queue_rest behind (behind_head p.b) queueb_start class_places best_start (omega arith) (omega arith) in
       rw (left_is p.b queueb_start class_places (omega arith) b_is r, table_kept, a_kept behind (omega arith), best_kept u (omega arith), last_kept u (omega arith), bound_kept u (omega arith)) refl
-  over_by LeftBest r =
+  over_by (Some LeftBest) r =
       let u : Rest last_start s (queue_over best_start best_places (behind_head p.best) t) = queue_rest behind (behind_head p.best) best_start best_places last_start (omega arith) (omega arith) in
       rw (left_is p.best best_start best_places (omega arith) best_is r, table_kept, a_kept behind (omega arith), b_kept behind (omega arith), last_kept u (omega arith), bound_kept u (omega arith)) refl
-  over_by (JoinedA f) r =
+  over_by (Some (JoinedA f)) r =
       let j = queue_joined behind room p.a queuea_start class_places f (omega arith) r.0 (omega arith) st.a in
       let u : Rest queueb_start s (queue_over queuea_start class_places (p.a ++ f ∷ []) t) = queue_rest behind (p.a ++ f ∷ []) queuea_start class_places queueb_start (omega arith) (omega arith) in
       rw (joined_is p.a queuea_start class_places f (omega arith) a_is r.0, ← j, table_kept, b_kept u (omega arith), best_kept u (omega arith), last_noted u f (omega arith) r.1, bound_kept (noted_rest u f (omega arith) r.1) (omega arith)) refl
-  over_by (JoinedB f) r =
+  over_by (Some (JoinedB f)) r =
       let j = queue_joined behind room p.b queueb_start class_places f (omega arith) r.0 (omega arith) st.b in
       let u : Rest best_start s (queue_over queueb_start class_places (p.b ++ f ∷ []) t) = queue_rest behind (p.b ++ f ∷ []) queueb_start class_places best_start (omega arith) (omega arith) in
       rw (joined_is p.b queueb_start class_places f (omega arith) b_is r.0, ← j, table_kept, a_kept behind (omega arith), best_kept u (omega arith), last_noted u f (omega arith) r.1, bound_kept (noted_rest u f (omega arith) r.1) (omega arith)) refl
-  over_by (JoinedBest f) r =
+  over_by (Some (JoinedBest f)) r =
       let j = queue_joined behind room p.best best_start best_places f (omega arith) r (omega arith) st.best in
       let u : Rest last_start s (queue_over best_start best_places (p.best ++ f ∷ []) t) = queue_rest behind (p.best ++ f ∷ []) best_start best_places last_start (omega arith) (omega arith) in
       rw (joined_is p.best best_start best_places f (omega arith) best_is r, ← j, table_kept, a_kept behind (omega arith), b_kept behind (omega arith), last_kept u (omega arith), bound_kept u (omega arith)) refl
@@ -122,8 +123,5 @@ module _ (s : List ℕ) (b : Bytes s) (ok : is_record s ≡ true) (e : Effect) w
 
 -- what is written, whatever the bytes are
 module _ (s : List ℕ) (e : Effect) where
-  pub too_short : length s < record_size → s ≡ effect_over e s
-  too_short h = rw (lt-leb record_size (length s) h) refl
-
   pub all_written : record_size ≤ length s → {u v w : List ℕ} → u ≡ numbers_over e s → v ≡ changed_over e.change u → w ≡ stored v wire_start (wire_words e.wire) → w ≡ effect_over e s
   all_written h eu ev ew = rw (le-leb record_size (length s) h) (ew ∙ rw (ev, eu) refl)

@@ -1,9 +1,9 @@
 -- What a call writes over bytes, whatever these are. (Of a record with places for it, it is what the whole port, written over them, would change.)
-use Rattle.std.specs.Prelude.{ℕ, ◌+◌, ◌*◌, cond, List, [], ◌∷◌, leb, ltb, length}
+use Rattle.std.specs.Prelude.{ℕ, ◌+◌, ◌*◌, cond, List, [], ◌∷◌, leb, ltb, length, Option, Some, None}
 use Rattle.table.specs.Limits.{most_rows, class_places}
 use Rattle.machine.specs.declared.Frame.{Frame}
 use Rattle.machine.specs.declared.Change.{Change}
-use Rattle.machine.specs.declared.Change.TheVariants.{None, LeftA, LeftB, LeftBest, JoinedA, JoinedB, JoinedBest}
+use Rattle.machine.specs.declared.Change.TheVariants.{LeftA, LeftB, LeftBest, JoinedA, JoinedB, JoinedBest}
 use Rattle.machine.specs.declared.Effect.{Effect}
 use Rattle.machine.specs.Limits.{best_places}
 use Rattle.machine.specs.State.{at}
@@ -23,14 +23,14 @@ joined_over k places f s = cond (ltb (word_at s k) places) (stored (stored s k (
 abbrev pub noted_over : Frame → List ℕ → List ℕ
 noted_over f s = cond (ltb f.source most_rows) (stored s (last_start + last_width * f.source) (last_words (at f.taken))) s
 
-abbrev pub changed_over : Change → List ℕ → List ℕ
+abbrev pub changed_over : Option Change → List ℕ → List ℕ
 changed_over None s = s
-changed_over LeftA s = left_over queuea_start class_places s
-changed_over LeftB s = left_over queueb_start class_places s
-changed_over LeftBest s = left_over best_start best_places s
-changed_over (JoinedA f) s = noted_over f (joined_over queuea_start class_places f s)
-changed_over (JoinedB f) s = noted_over f (joined_over queueb_start class_places f s)
-changed_over (JoinedBest f) s = joined_over best_start best_places f s
+changed_over (Some LeftA) s = left_over queuea_start class_places s
+changed_over (Some LeftB) s = left_over queueb_start class_places s
+changed_over (Some LeftBest) s = left_over best_start best_places s
+changed_over (Some (JoinedA f)) s = noted_over f (joined_over queuea_start class_places f s)
+changed_over (Some (JoinedB f)) s = noted_over f (joined_over queueb_start class_places f s)
+changed_over (Some (JoinedBest f)) s = joined_over best_start best_places f s
 
 -- Bytes with the clock and the credits, the queue, and the wire of an effect. Too few for a record stay as they are.
 abbrev pub numbers_over : Effect → List ℕ → List ℕ

@@ -1,11 +1,11 @@
 // A call carried out on a record's bytes: the numbers and the wire are written, and of queues and instants the words that it changes.
-ghost use Rattle.std.specs.Prelude.{◌≡◌, true, ◌+◌, ◌-◌, ◌*◌, ◌≤◌, length};
+ghost use Rattle.std.specs.Prelude.{◌≡◌, true, ◌+◌, ◌*◌, ◌≤◌, length};
 ghost use Rattle.machine.specs.Effects.{Room, carried_out};
 ghost use Rattle.recordbytes.specs.Layout.{frame_width, record_width, record_size};
 ghost use Rattle.recordbytes.specs.Record.{state_of, is_record, record_over};
 ghost use Rattle.recordchange.specs.Changed.{left_over, joined_over, noted_over, changed_over, effect_over};
 
-use machine::{BEST_PLACES, Change, Effect, Frame, Last};
+use machine::{BEST_PLACES, Change, Effect, Frame};
 use recordbytes::{
     BEST_START, FRAME_WIDTH, LAST_START, LAST_WIDTH, QUEUEA_START, QUEUEB_START, RECORD_SIZE,
 };
@@ -14,13 +14,6 @@ use recordread::read::frame_at;
 use rowbytes::write::put_word;
 use table::{CLASS_PLACES, ROWS};
 use words::words::word;
-
-// How many of n frames wait behind the head.
-fn behind(n: usize) -> usize
-    ensures { result ≡ n - 1 }
-{
-    if n == 0 { 0 } else { n - 1 }
-}
 
 // The head of a queue leaves it, and the frames behind it move up by a place. The word of number k has the queue's count.
 fn leave(out: &mut [u8], k: usize, places: usize)
@@ -32,13 +25,12 @@ fn leave(out: &mut [u8], k: usize, places: usize)
     if places < n {
         return;
     }
-    let rest = behind(n);
+    let rest = n.saturating_sub(1);
     put_word(out, k, rest as u64);
-    let mut i: usize = 0;
-    while i < rest {
+    // Stays a loop: copy_within would keep a word that is larger than its field, and `bytes` of change_record has it cut.
+    for i in 0..rest {
         let f = frame_at(out, k + 1 + FRAME_WIDTH * (i + 1));
         put_frame(out, k + 1 + FRAME_WIDTH * i, f);
-        i += 1;
     }
 }
 
@@ -49,11 +41,10 @@ fn join(out: &mut [u8], k: usize, places: usize, f: Frame)
     ensures { out.new ≡ joined_over k places f out.old }
 {
     let n = word(out, k) as usize;
-    if places <= n {
-        return;
+    if n < places {
+        put_word(out, k, (n + 1) as u64);
+        put_frame(out, k + 1 + FRAME_WIDTH * n, f);
     }
-    put_word(out, k, (n + 1) as u64);
-    put_frame(out, k + 1 + FRAME_WIDTH * n, f);
 }
 
 // The instant of a row's frame is the row's last.
@@ -65,29 +56,18 @@ fn note(out: &mut [u8], f: Frame)
     if ROWS <= row {
         return;
     }
-    let last = Last {
-        known: true,
-        taken: f.taken,
-    };
-    put_last(out, LAST_START + LAST_WIDTH * row, last);
+    put_last(out, LAST_START + LAST_WIDTH * row, Some(f.taken));
 }
 
 // The queue that a call changes, and the instant of a row's frame.
 fn change_queue(out: &mut [u8], change: Change)
     requires { record_size ≤ length out.old }
-    ensures { out.new ≡ changed_over change out.old }
+    ensures { out.new ≡ changed_over (Some change) out.old }
 {
     match change {
-        Change::None => {}
-        Change::LeftA => {
-            leave(out, QUEUEA_START, CLASS_PLACES);
-        }
-        Change::LeftB => {
-            leave(out, QUEUEB_START, CLASS_PLACES);
-        }
-        Change::LeftBest => {
-            leave(out, BEST_START, BEST_PLACES);
-        }
+        Change::LeftA => leave(out, QUEUEA_START, CLASS_PLACES),
+        Change::LeftB => leave(out, QUEUEB_START, CLASS_PLACES),
+        Change::LeftBest => leave(out, BEST_START, BEST_PLACES),
         Change::JoinedA(f) => {
             join(out, QUEUEA_START, CLASS_PLACES, f);
             note(out, f);
@@ -96,9 +76,17 @@ fn change_queue(out: &mut [u8], change: Change)
             join(out, QUEUEB_START, CLASS_PLACES, f);
             note(out, f);
         }
-        Change::JoinedBest(f) => {
-            join(out, BEST_START, BEST_PLACES, f);
-        }
+        Change::JoinedBest(f) => join(out, BEST_START, BEST_PLACES, f),
+    }
+}
+
+fn change_queues(out: &mut [u8], change: Option<Change>)
+    requires { record_size ≤ length out.old }
+    ensures { out.new ≡ changed_over change out.old }
+{
+    match change {
+        None => {}
+        Some(change) => change_queue(out, change),
     }
 }
 
@@ -111,8 +99,6 @@ pub fn change_record(out: &mut [u8], e: Effect)
         return;
     }
     put_numbers(out, e.clock, e.credita, e.creditb);
-    let change = e.change;
-    change_queue(out, change);
-    let wire = e.wire;
-    put_wire(out, wire);
+    change_queues(out, e.change);
+    put_wire(out, e.wire);
 }

@@ -1,50 +1,32 @@
 -- The parts of a port from the words that name them.
 use Prim.Native.Nat.{ℕ, zero, suc, ◌+◌, ◌*◌, ◌<◌}
-use mathlib.Core.Bool.{true, false, cond}
+use mathlib.Core.Bool.{cond}
 use mathlib.Core.List.{List, [], ◌∷◌, map}
 use mathlib.Core.Path.{◌≡◌, refl, ◌∙◌, ap}
 use native.Mathlib.Numerals.{add-one}
 use native.Mathlib.Omega.{arith}
-use lib.IntN.{ℤ, pos}
+use lib.IntN.{ℤ}
 use lib.ListN.{length, get_or, set, take, replicate, length-map, get_or-map}
 use lib.Seq.{take-suc, take_all, length-take-le}
-use borrow.Author.Tests.{eq-eqb, ne_eqb}
+use Rattle.std.specs.declared.option.Option.{Option}
+use Rattle.std.specs.declared.option.Option.TheVariants.{None}
 use Rattle.table.specs.declared.Row.{Row}
 use Rattle.table.specs.declared.Table.{Table}
 use Rattle.table.specs.Limits.{most_rows}
 use Rattle.table.specs.Rows.{no_row, is_there}
 use Rattle.machine.specs.declared.Wire.{Wire}
-use Rattle.machine.specs.declared.Wire.TheVariants.{Free, Sending}
 use Rattle.machine.specs.declared.Queue.{Queue}
-use Rattle.machine.specs.declared.BestQueue.{BestQueue}
-use Rattle.machine.specs.declared.Last.{Last}
 use Rattle.machine.specs.declared.Port.{Port}
 use Rattle.machine.specs.Limits.{class_places, best_places}
-use Rattle.machine.specs.State.{Instant, never, instants_for, zero_frame, zero_last, placed, last_of, port_of}
+use Rattle.machine.specs.State.{Instant, never, instants_for, zero_frame, placed, last_of, port_of}
 use Rattle.machine.proofs.Instants.{for_length}
 use Rattle.words.specs.Words.{word_at, gathered}
 use Rattle.words.proofs.Laws.{gathered_length, gathered_none, gathered_next}
 use Rattle.rowbytes.specs.Row.{row_width, u16_of, u32_of, row_at}
-use Rattle.recordbytes.specs.declared.Reading.{Reading}
-use Rattle.recordbytes.specs.Layout.{rows_start, clock_start, queuea_start, queueb_start, best_start, last_start, bounds_start, wire_start, idlea_place, idleb_place, payload_place, count_place, frame_width, last_width, bound_width}
-use Rattle.recordbytes.specs.Record.{signed_of, frame_at, instant_at, queue_at, wire_at, state_of, is_record}
-use Rattle.recordbytes.specs.Port.{table_from, port_from, nothing, read_record}
+use Rattle.recordbytes.specs.Layout.{rows_start, clock_start, queuea_start, queueb_start, best_start, last_start, bounds_start, wire_start, idlea_place, idleb_place, payload_place, count_place, last_width, bound_width}
+use Rattle.recordbytes.specs.Record.{signed_of, instant_at, queue_at, wire_at, state_of}
+use Rattle.recordbytes.specs.Port.{table_from, port_from}
 use Rattle.recordbytes.proofs.Laws.{gathered_at, placed_none, placed_next}
-
-module _ (s : List ℕ) (k : ℕ) where
-  pub last_known : {w : ℕ} → word_at s k ≡ 1 → w ≡ word_at s (k + 1) → ◌≡◌ {A = Last} (record { known = true; taken = w }) (last_of (instant_at s k))
-  last_known e f = rw (eq-eqb (word_at s k) 1 e, f) refl
-
-  pub last_unknown : (word_at s k ≡ 1 → ⊥) → zero_last ≡ last_of (instant_at s k)
-  last_unknown h = rw (ne_eqb (word_at s k) 1 h) refl
-
-  pub sending_named : word_at s k ≡ 1 → Sending (frame_at s (k + 1)) (u32_of (word_at s (k + 1 + frame_width))) ≡ wire_at s k
-  unfolding wire_at
-  sending_named e = rw (eq-eqb (word_at s k) 1 e) refl
-
-  pub free_named : (word_at s k ≡ 1 → ⊥) → Free ≡ wire_at s k
-  unfolding wire_at
-  free_named h = rw (ne_eqb (word_at s k) 1 h) refl
 
 -- ---- a loop that gathers things into places
 module _ {X : Type 0} (z : X) (n : ℕ) (f : ℕ → X) (size k : ℕ) where
@@ -72,24 +54,24 @@ module _ (s : List ℕ) (n : ℕ) where
   abbrev instants : List Instant
   instants = gathered (instant_at s) last_width last_start n
 
-  abbrev pub named : List Last
+  abbrev pub named : List (Option ℕ)
   named = map last_of (instants_for rows instants)
 
   lasts_length : length named ≡ n
   lasts_length = length-map (instants_for rows instants) last_of ∙ for_length rows instants ∙ gathered_length (row_at s) row_width rows_start n
 
-  pub no_lasts : {l : Last} → l ≡ zero_last → replicate most_rows l ≡ placed most_rows zero_last (take 0 named)
-  no_lasts e = rw e (placed_none zero_last most_rows)
+  pub no_lasts : {l : Option ℕ} → l ≡ None → replicate most_rows l ≡ placed most_rows None (take 0 named)
+  no_lasts e = rw e (placed_none None most_rows)
 
-  pub next_last : (i : ℕ) {l : Last} {ls : List Last} → i < n → i < most_rows → ls ≡ placed most_rows zero_last (take i named) → l ≡ last_of (cond (is_there (row_at s (rows_start + row_width * i))) (instant_at s (last_start + last_width * i)) never) → set ls i l ≡ placed most_rows zero_last (take (i + 1) named)
+  pub next_last : (i : ℕ) {l : Option ℕ} {ls : List (Option ℕ)} → i < n → i < most_rows → ls ≡ placed most_rows None (take i named) → l ≡ last_of (cond (is_there (row_at s (rows_start + row_width * i))) (instant_at s (last_start + last_width * i)) never) → set ls i l ≡ placed most_rows None (take (i + 1) named)
   next_last i h g e f =
       let m : length (take i named) ≡ i = length-take-le i named (omega (arith, lasts_length)) in
-      let p = placed_next zero_last most_rows (take i named) (get_or named i zero_last) (omega (arith, m)) in
+      let p = placed_next None most_rows (take i named) (get_or named i None) (omega (arith, m)) in
       let instant = for_each rows instants i (rw (gathered_length (row_at s) row_width rows_start n) h) (rw (gathered_length (instant_at s) last_width last_start n) h) in
       let here = get_or-map last_of (instants_for rows instants) i never ∙ ap last_of (rw (gathered_at (row_at s) row_width rows_start n i no_row h, gathered_at (instant_at s) last_width last_start n i never h) at instant) in
-      rw (e, f, ← here, add-one, take-suc named i zero_last (omega (arith, lasts_length))) (rw m at p)
+      rw (e, f, ← here, add-one, take-suc named i None (omega (arith, lasts_length))) (rw m at p)
 
-  pub all_lasts : {ls : List Last} → ls ≡ placed most_rows zero_last (take n named) → ls ≡ placed most_rows zero_last named
+  pub all_lasts : {ls : List (Option ℕ)} → ls ≡ placed most_rows None (take n named) → ls ≡ placed most_rows None named
   all_lasts e = e ∙ rw (take_all n named (omega (arith, lasts_length))) refl
 
 -- ---- the parts
@@ -102,8 +84,8 @@ pub count_named : (s : List ℕ) → (table_from (state_of s).table).count ≡ w
 unfolding table_from state_of
 count_named s = gathered_length (row_at s) row_width rows_start (word_at s count_place)
 
-pub port_named : (s : List ℕ) {t : Table} {w : ℕ} {x y : ℤ} {bs : List ℕ} {a b : Queue} {q : BestQueue} {ls : List Last} {v : Wire} → t ≡ table_from (state_of s).table → a ≡ record { count = length (queue_at s queuea_start); frames = placed class_places zero_frame (queue_at s queuea_start) } → b ≡ record { count = length (queue_at s queueb_start); frames = placed class_places zero_frame (queue_at s queueb_start) } → q ≡ record { count = length (queue_at s best_start); frames = placed best_places zero_frame (queue_at s best_start) }
-    → ls ≡ placed most_rows zero_last (named s t.count) → bs ≡ placed most_rows 0 (gathered (word_at s) bound_width bounds_start t.count) → v ≡ wire_at s wire_start → w ≡ word_at s clock_start → x ≡ signed_of (word_at s (clock_start + 1)) → y ≡ signed_of (word_at s (clock_start + 2))
+pub port_named : (s : List ℕ) {t : Table} {w : ℕ} {x y : ℤ} {bs : List ℕ} {a b : Queue class_places} {q : Queue best_places} {ls : List (Option ℕ)} {v : Wire} → t ≡ table_from (state_of s).table → a ≡ record { count = length (queue_at s queuea_start); frames = placed class_places zero_frame (queue_at s queuea_start) } → b ≡ record { count = length (queue_at s queueb_start); frames = placed class_places zero_frame (queue_at s queueb_start) } → q ≡ record { count = length (queue_at s best_start); frames = placed best_places zero_frame (queue_at s best_start) }
+    → ls ≡ placed most_rows None (named s t.count) → bs ≡ placed most_rows 0 (gathered (word_at s) bound_width bounds_start t.count) → v ≡ wire_at s wire_start → w ≡ word_at s clock_start → x ≡ signed_of (word_at s (clock_start + 1)) → y ≡ signed_of (word_at s (clock_start + 2))
     → ◌≡◌ {A = Port} (record { table = t; bounds = bs; clock = w; credita = x; creditb = y; a = a; b = b; best = q; last = ls; wire = v }) (port_from (state_of s))
 unfolding port_from port_of state_of
 port_named s {t = t} et ea eb eq el ebs ev ew ex ey =
@@ -111,15 +93,3 @@ port_named s {t = t} et ea eb eq el ebs ev ew ex ey =
     let lasts = rw n at el in
     let bounds = rw n at ebs in
     rw (lasts, bounds, et, ea, eb, eq, ev, ew, ex, ey) refl
-
-pub record_read : (s : List ℕ) {p : Port} → is_record s ≡ true → p ≡ port_from (state_of s) → ◌≡◌ {A = Reading} (record { readable = true; port = p }) (read_record s)
-unfolding read_record
-record_read s e f = rw (e, f) refl
-
-pub no_record : (s : List ℕ) {p : Port} → is_record s ≡ false → p ≡ port_from nothing → ◌≡◌ {A = Reading} (record { readable = false; port = p }) (read_record s)
-unfolding read_record
-no_record s e f = rw (e, f) refl
-
-pub zeros_named : ◌≡◌ {A = Port} (record { table = record { header = record { idlea = 0; idleb = 0; payload = 0 }; count = 0; rows = replicate most_rows no_row }; bounds = replicate most_rows 0; clock = 0; credita = pos 0; creditb = pos 0; a = record { count = 0; frames = replicate class_places zero_frame }; b = record { count = 0; frames = replicate class_places zero_frame }; best = record { count = 0; frames = replicate best_places zero_frame }; last = replicate most_rows zero_last; wire = Free }) (port_from nothing)
-unfolding port_from port_of table_from placed
-zeros_named = refl

@@ -1,63 +1,27 @@
--- The tests of a record's words, from the words that they look at.
-use Prim.Native.Nat.{ℕ, ◌+◌, ◌*◌, ◌≤◌, ◌<◌}
-use mathlib.Core.Bool.{Bool, true, false, not, cond, ◌&&◌, and-true}
-use mathlib.Core.List.{List}
-use mathlib.Core.Path.{◌≡◌, refl}
-use lib.Dec.{eqb}
-use lib.ListN.{length}
-use borrow.Author.Tests.{eq-eqb, ne_eqb, le-leb, lt-leb}
-use Rattle.table.specs.Rows.{is_there}
-use Rattle.machine.specs.Limits.{class_places, best_places}
-use Rattle.words.specs.Words.{word_at}
-use Rattle.rowbytes.specs.Row.{row_width, row_at, fits_u32, row_fits}
-use Rattle.recordbytes.specs.Layout.{count_place, rows_start, queuea_start, queueb_start, best_start, last_start, wire_start, frame_width, last_width, record_size}
-use Rattle.recordbytes.specs.Record.{head_fits, frame_fits, last_fits, mark_fits, wire_fits, each, queue_fits, is_record}
+-- Tests of n things by `all` over a range.
+use Prim.Native.Nat.{ℕ, zero, suc, ◌+◌, ◌*◌}
+use mathlib.Core.Bool.{Bool, ◌&&◌}
+use mathlib.Core.Path.{◌≡◌, refl, ◌∙◌, ap}
+use native.Mathlib.Omega.{arith}
+use denote.Param.Members.{Mut}
+use Rattle.std.specs.Fn.{Called}
+use Rattle.std.specs.List.{list_all, range_with_len}
+use Rattle.std.specs.Iterator.{ChecksAll}
+use Rattle.std.specs.declared.ops.Range.{Range}
+use Rattle.std.proofs.iter.Yields.{nat_range_steps}
+use Rattle.std.proofs.lemmas.Iterator.{YieldsList-from_range}
+use Rattle.std.proofs.lemmas.Iterator.Search.{all_from_yields_List}
+use Rattle.recordbytes.specs.Record.{each}
 
-module _ (s : List ℕ) (k : ℕ) where
-  pub wire_sending : word_at s k ≡ 1 → frame_fits s (k + 1) && fits_u32 (word_at s (k + 1 + frame_width)) ≡ wire_fits s k
-  unfolding wire_fits
-  wire_sending e = rw (eq-eqb (word_at s k) 1 e) refl
+each_of_range : (ok : ℕ → Bool) (size k a n : ℕ) → list_all (λ i. ok (k + size * i)) (range_with_len a n) ≡ each ok size (k + size * a) n
+unfolding each
+each_of_range ok size k a zero = refl
+each_of_range ok size k a (suc n) =
+    let z : k + size * (a + 1) ≡ k + size * a + size = omega arith in
+    ap (λ b. ok (k + size * a) && b) (each_of_range ok size k (a + 1) n ∙ ap (λ j. each ok size j n) z)
 
-  pub wire_else : (word_at s k ≡ 1 → ⊥) → eqb (word_at s k) 0 ≡ wire_fits s k
-  unfolding wire_fits
-  wire_else h = rw (ne_eqb (word_at s k) 1 h) refl
-
-  module _ (places : ℕ) where
-    pub too_many : places < word_at s k → false ≡ queue_fits s k places
-    unfolding queue_fits
-    too_many h = rw (lt-leb (word_at s k) places h) refl
-
-    pub not_too_many : word_at s k ≤ places → each (frame_fits s) frame_width (k + 1) (word_at s k) ≡ queue_fits s k places
-    unfolding queue_fits
-    not_too_many h = rw (le-leb (word_at s k) places h) refl
-
--- the mark of a number
-module _ (s : List ℕ) (i : ℕ) where
-  pub mark_right : last_fits s (last_start + last_width * i) ≡ true → true ≡ mark_fits s i
-  mark_right e = rw e (go (is_there (row_at s (rows_start + row_width * i))))
-    where
-      go : (b : Bool) → true ≡ cond b true true
-      go true = refl
-      go false = refl
-
-  pub mark_wrong : last_fits s (last_start + last_width * i) ≡ false → not (is_there (row_at s (rows_start + row_width * i))) ≡ mark_fits s i
-  mark_wrong e = rw e (go (is_there (row_at s (rows_start + row_width * i))))
-    where
-      go : (b : Bool) → not b ≡ cond b false true
-      go true = refl
-      go false = refl
-
-module _ (s : List ℕ) where
-  pub short : length s < record_size → false ≡ is_record s
-  unfolding is_record
-  short h = rw (lt-leb record_size (length s) h) refl
-
-  module _ (long : record_size ≤ length s) where
-    pub wrong_head : head_fits s ≡ false → false ≡ is_record s
-    unfolding is_record
-    wrong_head e = rw (le-leb record_size (length s) long, e) refl
-
-    pub right_head : head_fits s ≡ true
-        → each (row_fits s) row_width rows_start (word_at s count_place) && (queue_fits s queuea_start class_places && (queue_fits s queueb_start class_places && (queue_fits s best_start best_places && (each (mark_fits s) 1 0 (word_at s count_place) && wire_fits s wire_start)))) ≡ is_record s
-    unfolding is_record
-    right_head e = rw (le-leb record_size (length s) long, e, and-true (wire_fits s wire_start)) refl
+-- `r` is the answer of `all`, and `f` its closure
+pub all_fit : (ok : ℕ → Bool) (size k n : ℕ) {F : Type 0} {g : Mut F (ℕ × Unit {0}) Bool} {f : F} {r : Bool} {u : Range ℕ} → ChecksAll nat_range_steps g (record { start = 0; end = n }) f r u → ((x : ℕ) (b : Bool) (q : F) → Called g f (x, tt) b q → (q ≡ f) × (b ≡ ok (k + size * x))) → r ≡ each ok size k n
+all_fit ok size k n {f = f} {r = r} {u = u} ran closure =
+    let z : k + size * 0 ≡ k = omega arith in
+    all_from_yields_List (λ i. ok (k + size * i)) u f r ran (YieldsList-from_range 0 n n refl (omega arith)) closure ∙ each_of_range ok size k 0 n ∙ ap (λ j. each ok size j n) z

@@ -18,19 +18,22 @@ use table::rows::is_there;
 use table::{CLASS_PLACES, ROWS};
 use words::words::word;
 
+#[tactic(auto, unfolding(recordbytes::specs::Record::head_fits))]
 fn head_fits(s: &[u8]) -> bool
     ensures { result ≡ head_fits s.now }
 {
-    let known = (word(s, HEAD_START) == VERSION) & (word(s, COUNT_PLACE) <= ROWS as u64);
-    let slopes = (word(s, IDLEA_PLACE) <= U32) & (word(s, IDLEB_PLACE) <= U32);
-    known & (slopes & (word(s, PAYLOAD_PLACE) <= U16))
+    word(s, HEAD_START) == VERSION
+        && word(s, COUNT_PLACE) <= ROWS as u64
+        && word(s, IDLEA_PLACE) <= U32
+        && word(s, IDLEB_PLACE) <= U32
+        && word(s, PAYLOAD_PLACE) <= U16
 }
 
 fn frame_fits(s: &[u8], k: usize) -> bool
     requires { k + frame_width ≤ record_width }
     ensures { result ≡ frame_fits s.now k }
 {
-    (word(s, k) <= U32) & (word(s, k + 1) <= U32)
+    word(s, k) <= U32 && word(s, k + 1) <= U32
 }
 
 fn last_fits(s: &[u8], k: usize) -> bool
@@ -44,90 +47,63 @@ fn mark_fits(s: &[u8], i: usize) -> bool
     requires { i < most_rows }
     ensures { result ≡ mark_fits s.now i }
 {
-    if last_fits(s, LAST_START + LAST_WIDTH * i) {
-        return true;
-    }
-    let row = row_at(s, ROWS_START + ROW_WIDTH * i);
-    !is_there(row)
+    last_fits(s, LAST_START + LAST_WIDTH * i) || !is_there(row_at(s, ROWS_START + ROW_WIDTH * i))
 }
 
+#[tactic(auto, unfolding(recordbytes::specs::Record::wire_fits))]
 fn wire_fits(s: &[u8]) -> bool
     ensures { result ≡ wire_fits s.now wire_start }
 {
     let mark = word(s, WIRE_START);
     if mark == 1 {
-        return frame_fits(s, WIRE_START + 1) & (word(s, WIRE_START + 1 + FRAME_WIDTH) <= U32);
+        frame_fits(s, WIRE_START + 1) && word(s, WIRE_START + 1 + FRAME_WIDTH) <= U32
+    } else {
+        mark == 0
     }
-    mark == 0
 }
 
 fn rows_fit(s: &[u8], n: usize) -> bool
     requires { n ≤ most_rows }
     ensures { result ≡ each (row_fits s.now) row_width rows_start n }
 {
-    let mut i: usize = 0;
-    while i < n {
-        if !row_fits(s, ROWS_START + ROW_WIDTH * i) {
-            return false;
-        }
-        i += 1;
-    }
-    true
+    (0..n).all(|i| row_fits(s, ROWS_START + ROW_WIDTH * i))
 }
 
 fn frames_fit(s: &[u8], k: usize, n: usize) -> bool
     requires { k + frame_width * n ≤ record_width }
     ensures { result ≡ each (frame_fits s.now) frame_width k n }
 {
-    let mut i: usize = 0;
-    while i < n {
-        if !frame_fits(s, k + FRAME_WIDTH * i) {
-            return false;
-        }
-        i += 1;
-    }
-    true
+    (0..n).all(|i| frame_fits(s, k + FRAME_WIDTH * i))
 }
 
 fn lasts_fit(s: &[u8], n: usize) -> bool
     requires { n ≤ most_rows }
     ensures { result ≡ each (mark_fits s.now) 1 0 n }
 {
-    let mut i: usize = 0;
-    while i < n {
-        if !mark_fits(s, i) {
-            return false;
-        }
-        i += 1;
-    }
-    true
+    (0..n).all(|i| mark_fits(s, i))
 }
 
+#[tactic(auto, unfolding(recordbytes::specs::Record::queue_fits))]
 fn queue_fits(s: &[u8], k: usize, places: usize) -> bool
     requires { k + 1 + frame_width * places ≤ record_width }
     ensures { result ≡ queue_fits s.now k places }
 {
     let n = word(s, k);
-    if (places as u64) < n {
-        return false;
-    }
-    frames_fit(s, k + 1, n as usize)
+    n <= places as u64 && frames_fit(s, k + 1, n as usize)
 }
 
+#[tactic(auto, unfolding(recordbytes::specs::Record::is_record))]
 pub fn is_record(s: &[u8]) -> bool
     ensures { result ≡ is_record s.now }
 {
-    if s.len() < RECORD_SIZE {
-        return false;
-    }
-    if !head_fits(s) {
+    if s.len() < RECORD_SIZE || !head_fits(s) {
         return false;
     }
     let n = word(s, COUNT_PLACE) as usize;
-    let rows = rows_fit(s, n);
-    let a = queue_fits(s, QUEUEA_START, CLASS_PLACES);
-    let b = queue_fits(s, QUEUEB_START, CLASS_PLACES);
-    let best = queue_fits(s, BEST_START, BEST_PLACES);
-    let lasts = lasts_fit(s, n);
-    rows & (a & (b & (best & (lasts & wire_fits(s)))))
+    rows_fit(s, n)
+        && queue_fits(s, QUEUEA_START, CLASS_PLACES)
+        && queue_fits(s, QUEUEB_START, CLASS_PLACES)
+        && queue_fits(s, BEST_START, BEST_PLACES)
+        && lasts_fit(s, n)
+        && wire_fits(s)
 }

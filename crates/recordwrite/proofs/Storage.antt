@@ -7,17 +7,18 @@ use native.Mathlib.Omega.{arith}
 use lib.Dec.{leb}
 use lib.ListN.{length, get_or, take, replicate, length-take}
 use lib.Seq.{take_all, take_at}
-use borrow.Author.Tests.{le-leb, lt-leb, leb-true, leb-false}
+use borrow.Author.Tests.{le-leb, leb-true, leb-false}
+use Rattle.std.specs.declared.option.Option.{Option}
+use Rattle.std.specs.declared.option.Option.TheVariants.{None}
 use Rattle.table.specs.declared.Row.{Row}
 use Rattle.table.specs.declared.Table.{Table}
 use Rattle.table.specs.Limits.{most_rows}
 use Rattle.table.specs.Rows.{no_row, is_there, rows_of, contents}
 use Rattle.table.proofs.Laws.{rows_length, row_in_place}
 use Rattle.machine.specs.declared.Frame.{Frame}
-use Rattle.machine.specs.declared.Last.{Last}
 use Rattle.machine.specs.declared.Port.{Port}
 use Rattle.machine.specs.Limits.{class_places, best_places}
-use Rattle.machine.specs.State.{Instant, never, no_frame, zero_last, waiting, instant_of, instants_of, kept_of, view}
+use Rattle.machine.specs.State.{Instant, never, no_frame, waiting, instant_of, instants_of, kept_of, view}
 use Rattle.machine.proofs.Places.{waiting_length, instant_at_lem}
 use Rattle.words.specs.Words.{flat, stored, spread}
 use Rattle.words.proofs.Laws.{more, four}
@@ -65,18 +66,18 @@ module _ (s : List ℕ) (k : ℕ) (r : Row) (i : Instant) where
   unfolding stored flat
   no_mark_lem e = rw e refl
 
-module _ (t : Table) (ls : List Last) where
+module _ (t : Table) (ls : List (Option ℕ)) where
   abbrev pub marks : List (Row × Instant)
   marks = marked (rows_of t) (instants_of (rows_of t) ls)
 
   pub marks_length : length marks ≡ t.count
   marks_length = marked_length (rows_of t) (instants_of (rows_of t) ls) ∙ rows_length t
 
-  pub mark_at : length t.rows ≡ most_rows → (i : ℕ) → i < t.count → i < most_rows → marked_words (get_or t.rows i no_row, instant_of (get_or ls i zero_last)) ≡ marked_words (get_or marks i (no_row, never))
+  pub mark_at : length t.rows ≡ most_rows → (i : ℕ) → i < t.count → i < most_rows → marked_words (get_or t.rows i no_row, instant_of (get_or ls i None)) ≡ marked_words (get_or marks i (no_row, never))
   mark_at long i h g =
       rw (marked_at (rows_of t) (instants_of (rows_of t) ls) i (rw (rows_length t) h), row_in_place t long i h g) (go (is_there (get_or t.rows i no_row)) refl)
     where
-      go : (b : Bool) → is_there (get_or t.rows i no_row) ≡ b → cond b (last_words (instant_of (get_or ls i zero_last))) [] ≡ cond b (last_words (get_or (instants_of (rows_of t) ls) i never)) []
+      go : (b : Bool) → is_there (get_or t.rows i no_row) ≡ b → cond b (last_words (instant_of (get_or ls i None))) [] ≡ cond b (last_words (get_or (instants_of (rows_of t) ls) i never)) []
       go true e = sym (ap last_words (instant_at_lem (rows_of t) ls i (rw (row_in_place t long i h g) e)))
       go false e = refl
 
@@ -102,10 +103,6 @@ unfolding queue_over
 queue_put k places n fs s long e f = f ∙ rw (e, in_places_lem no_frame n places fs long, waiting_length n fs) refl
 
 -- ---- the whole record
-pub no_room : (s : List ℕ) (p : Port) → length s < record_size → s ≡ written p s
-unfolding written
-no_room s p h = rw (lt-leb record_size (length s) h) refl
-
 pub written_fits : (s : List ℕ) (p : Port) → record_size ≤ length s → written p s ≡ record_over (view p) s
 unfolding written
 written_fits s p h = rw (le-leb record_size (length s) h) refl
@@ -118,11 +115,7 @@ unfolding record_over view
 record_put s p h e2 e3 e4 e5 e6 e7 e8 e9 = e9 ∙ rw (e8, e7, e6, e5, e4, e3, e2) (sym (written_fits s p h))
 
 -- ---- a table, its last instants and its bounds
-module _ (s : List ℕ) (t : Table) (last : List Last) (bounds : List ℕ) where
-  pub no_patch_lem : length s < record_size → s ≡ patched t last bounds s
-  unfolding patched
-  no_patch_lem h = rw (lt-leb record_size (length s) h) refl
-
+module _ (s : List ℕ) (t : Table) (last : List (Option ℕ)) (bounds : List ℕ) where
   pub patched_fits : record_size ≤ length s → patched t last bounds s ≡ bounds_over (kept_of t.count bounds) (lasts_over (rows_of t) (instants_of (rows_of t) last) (table_over (contents t) s))
   unfolding patched
   patched_fits h = rw (le-leb record_size (length s) h) refl

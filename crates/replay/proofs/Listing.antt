@@ -1,49 +1,50 @@
 -- A list of calls: which is the first that can't be read, and where each answer goes.
 use Prim.Native.Nat.{ℕ, zero, suc, ◌+◌, ◌-◌, ◌*◌, ◌≤◌, ◌<◌}
-use mathlib.Core.Bool.{Bool, true, false}
+use Rattle.std.specs.Prelude.{Option, Some, None}
+use Rattle.std.specs.List.{find, range_with_len}
+use mathlib.Core.Bool.{Bool, true, false, cond, true≢false}
 use mathlib.Core.List.{List, ◌++◌, append-nil, append_assoc}
 use mathlib.Core.Path.{◌≡◌, refl, sym, ◌∙◌, ap}
+use native.Mathlib.Nat.{add-zero, zero-add}
 use native.Mathlib.Numerals.{add-one}
 use native.Mathlib.Omega.{arith}
 use lib.ListN.{length, take, drop, length-append, length-take, length-drop}
 use lib.Seq.{take_at, drop_at, take_all, drop-length, drop-drop}
-use borrow.Author.Tests.{eq-eqb, ne_eqb}
 use Rattle.table.specs.Rows.{Contents}
 use Rattle.table.specs.Checks.{accepted, over}
 use Rattle.machine.specs.declared.Port.{Port}
 use Rattle.machine.specs.State.{fresh, view}
 use Rattle.machine.specs.Calls.{Answer, answer, after}
 use Rattle.machine.specs.Run.{machine, answered}
-use Rattle.callbytes.specs.Calls.{answer_size, answer_bytes, fronted}
+use Rattle.callbytes.specs.declared.Asked.{Asked}
+use Rattle.callbytes.specs.Calls.{call_of, call_by, answer_size, answer_bytes, fronted}
 use Rattle.callbytes.proofs.Laws.{answer_length, answer_fits}
-use Rattle.replay.specs.List.{call_at, lowest, count_of, calls_of, events_of, answers_of}
+use Rattle.replay.specs.List.{asked_at, call_at, is_unreadable, first_unreadable, count_of, calls_of, events_of, answers_of}
 
--- ---- the lowest number that fails a test
-pub none_yet : (ok : ℕ → Bool) → lowest 0 ok ≡ 0
-unfolding lowest
-none_yet ok = refl
+-- ---- where no number's test says yes, that of each does not
+none_found : (test : ℕ → Bool) (n a : ℕ) → find test (range_with_len a n) ≡ None → (k : ℕ) → k < n → test (a + k) ≡ false
+none_found test zero a e k h = absurd (omega arith)
+none_found test (suc n) a e zero h = rw (add-zero a) (head (test a) e)
+  where
+    head : (b : Bool) → cond b (Some a) (find test (range_with_len (a + 1) n)) ≡ None → b ≡ false
+    head true e = cc
+    head false e = refl
+none_found test (suc n) a e (suc k) h =
+    let z : a + suc k ≡ a + 1 + k = omega arith in
+    rw z (none_found test n (a + 1) (tail (test a) e) k (omega arith))
+  where
+    tail : (b : Bool) → cond b (Some a) (find test (range_with_len (a + 1) n)) ≡ None → find test (range_with_len (a + 1) n) ≡ None
+    tail true e = cc
+    tail false e = e
 
-pub passes_on : (i : ℕ) (ok : ℕ → Bool) → lowest i ok ≡ i → ok i ≡ true → lowest (i + 1) ok ≡ i + 1
-unfolding lowest
-passes_on i ok e h = rw (add-one, e, eq-eqb i i refl, h) refl
+-- of a list in which all can be read no call is missing
+pub none_missing : (s : List ℕ) (n i : ℕ) → first_unreadable s n ≡ None → i < n → asked_at s i ≡ None → ⊥
+none_missing s n i e h f =
+    let there = none_found (is_unreadable s) n 0 e i h in
+    true≢false (rw (zero-add, f) at there)
 
-stops_here : (i : ℕ) (ok : ℕ → Bool) → lowest i ok ≡ i → ok i ≡ false → lowest (suc i) ok ≡ i
-unfolding lowest
-stops_here i ok e h = rw (e, eq-eqb i i refl, h) refl
-
-stays : (k i : ℕ) (ok : ℕ → Bool) → lowest (suc i) ok ≡ i → lowest (k + suc i) ok ≡ i
-unfolding lowest
-stays zero i ok e =
-    let z : zero + suc i ≡ suc i = omega arith in
-    rw z e
-stays (suc k) i ok e =
-    let z : suc k + suc i ≡ suc (k + suc i) = omega arith in
-    rw (z, stays k i ok e, ne_eqb i (k + suc i) (λ q. omega (arith, q))) refl
-
-pub first_at : (n i : ℕ) (ok : ℕ → Bool) → i < n → lowest i ok ≡ i → ok i ≡ false → i ≡ lowest n ok
-first_at n i ok h e f =
-    let z : n ≡ (n - suc i) + suc i = omega arith in
-    sym (ap (λ (m : ℕ). lowest m ok) z ∙ stays (n - suc i) i ok (stops_here i ok e f))
+pub called_at : (s : List ℕ) (i : ℕ) (a : Asked) {o : Option Asked} → o ≡ asked_at s i → o ≡ Some a → call_of a ≡ call_at s i
+called_at s i a e f = ap call_by (sym f ∙ e)
 
 -- ---- the answers, one behind the other
 answers_length : (t : Contents) (s : List ℕ) (n : ℕ) → length (answers_of (answered t (calls_of s n))) ≡ answer_size * n

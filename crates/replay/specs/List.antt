@@ -1,38 +1,43 @@
 -- A list of calls replayed on the port of a table file: 72 bytes a call, 40 bytes an answer.
-use Rattle.std.specs.Prelude.{ℕ, zero, suc, ◌*◌, ◌/◌, ◌%◌, Bool, cond, List, [], ◌∷◌, ◌++◌, ◌≡◌, leb, eqb, length, take, drop}
+use Rattle.std.specs.Prelude.{ℕ, zero, suc, ◌*◌, ◌/◌, ◌%◌, Bool, List, [], ◌∷◌, ◌++◌, ◌≡◌, leb, eqb, length, take, drop, Option, Some, None}
+use Rattle.std.specs.Option.{is_none}
+use Rattle.std.specs.List.{find, range_with_len}
 use Rattle.table.specs.Rows.{Contents, contents}
-use Rattle.table.specs.Checks.{Outcome, accepted, unless, first, over}
+use Rattle.table.specs.Checks.{Outcome, accepted, refused, unless, first, over}
 use Rattle.tablefile.specs.Reading.{read_file}
 use Rattle.machine.specs.Calls.{Call}
 use Rattle.machine.specs.Run.{Event, event, answered, Ran}
 use Rattle.codes.specs.Codes.{code_of, file_check}
 use Rattle.callbytes.specs.declared.Asked.{Asked}
-use Rattle.callbytes.specs.Calls.{call_size, answer_size, read_call, is_readable, call_of, answer_bytes}
+use Rattle.callbytes.specs.Calls.{call_size, answer_size, read_call, call_by, answer_bytes}
 
--- The call of number i.
-unfoldable pub asked_at : List ℕ → ℕ → Asked
+-- The call of number i, if it can be read.
+unfoldable pub asked_at : List ℕ → ℕ → Option Asked
 asked_at calls i = read_call (take call_size (drop (call_size * i) calls))
 
 abbrev pub call_at : List ℕ → ℕ → Call
-call_at calls i = call_of (asked_at calls i)
-
--- The lowest number below n that fails a test, or n.
-unfoldable pub lowest : ℕ → (ℕ → Bool) → ℕ
-lowest zero ok = zero
-lowest (suc n) ok = cond (eqb (lowest n ok) n) (cond (ok n) (suc n) n) (lowest n ok)
+call_at calls i = call_by (asked_at calls i)
 
 abbrev pub count_of : List ℕ → ℕ
 count_of calls = length calls / call_size
 
-abbrev pub unreadable : List ℕ → ℕ
-unreadable calls = lowest (count_of calls) (λ i. is_readable (asked_at calls i))
+abbrev pub is_unreadable : List ℕ → ℕ → Bool
+is_unreadable calls i = is_none (asked_at calls i)
+
+-- The first of n calls that can't be read.
+abbrev pub first_unreadable : List ℕ → ℕ → Option ℕ
+first_unreadable calls n = find (is_unreadable calls) (range_with_len 0 n)
+
+abbrev pub read_check : Option ℕ → Outcome
+read_check (Some k) = refused 102 k
+read_check None = accepted
 
 -- 101, no whole number of calls. 102, a call that can't be read; the place is its number. 103, fewer than 40 bytes an answer.
 unfoldable pub list_check : List ℕ → ℕ → Outcome
 list_check calls room =
     first
     (unless (eqb (length calls % call_size) 0) 101 0
-    ∷ unless (leb (count_of calls) (unreadable calls)) 102 (unreadable calls)
+    ∷ read_check (first_unreadable calls (count_of calls))
     ∷ unless (leb (answer_size * count_of calls) room) 103 0
     ∷ [])
 

@@ -6,7 +6,7 @@ ghost use Rattle.rowbytes.specs.Row.{pace_width, row_width, u8_of, u16_of, u32_o
 use table::{Class, Pace, Row};
 use words::words::word;
 
-// Of the word of number k, what a field of 8, of 16 or of 32 bits can hold.
+// Of the word of number k, what a field of 8, of 16 or of 32 bits can hold. (One for each width: each is a cast, and one for all would be no plainer.)
 fn u8_at(s: &[u8], k: usize) -> u8
     ensures { result ≡ u8_of (word_at s.now k) }
 {
@@ -28,36 +28,32 @@ pub fn u32_at(s: &[u8], k: usize) -> u32
 fn class_of(w: u64) -> Class
     ensures { result ≡ class_of w }
 {
-    if w == 0 {
-        return Class::A;
-    }
-    Class::B
+    if w == 0 { Class::A } else { Class::B }
 }
 
 // Behind the mark stands a period or a rate.
+#[tactic(auto, unfolding(crate::specs::Row::pace_at))]
 fn pace_at(s: &[u8], k: usize) -> Pace
     requires { k + pace_width < 2 ^ 64 }
     ensures { result ≡ pace_at s.now k }
 {
     let value = u32_at(s, k + 1);
     if word(s, k) == 1 {
-        let samples = u8_at(s, k + 2);
-        return Pace::Rated(samples, value);
+        Pace::Rated(u8_at(s, k + 2), value)
+    } else {
+        Pace::Period(value)
     }
-    Pace::Period(value)
 }
 
 pub fn row_at(s: &[u8], k: usize) -> Row
     requires { k + row_width < 2 ^ 64 }
     ensures { result ≡ row_at s.now k }
 {
-    let class = class_of(word(s, k));
-    let pace = pace_at(s, k + 4);
     Row {
-        class,
+        class: class_of(word(s, k)),
         tagged: word(s, k + 1) != 0,
         payload: u16_at(s, k + 2),
-        pace,
+        pace: pace_at(s, k + 4),
         deadline: u32_at(s, k + 3),
     }
 }

@@ -1,9 +1,10 @@
 // The words of a row, put where there is room for them.
 ghost use Rattle.std.specs.Prelude.{◌≡◌, [], ◌∷◌, ◌+◌, ◌*◌, ◌≤◌, length};
 ghost use Rattle.words.specs.Words.{stored};
-ghost use Rattle.rowbytes.specs.Row.{pace_width, row_width, class_word, tag_word, pace_words, row_words};
+ghost use Rattle.rowbytes.specs.Row.{pace_width, row_width, class_word, pace_words, row_words};
 
 use table::{Class, Pace, Row};
+use words::words::put_words;
 
 // A word that has room.
 pub fn put_word(out: &mut [u8], k: usize, w: u64)
@@ -18,9 +19,7 @@ pub fn put_three(out: &mut [u8], k: usize, a: u64, b: u64, c: u64)
     requires { 8 * (k + 3) ≤ length out.old }
     ensures { out.new ≡ stored out.old k (a ∷ b ∷ c ∷ []) }
 {
-    put_word(out, k, a);
-    put_word(out, k + 1, b);
-    put_word(out, k + 2, c);
+    put_words(out, k, &[a, b, c]);
 }
 
 fn class_word(class: Class) -> u64
@@ -32,27 +31,15 @@ fn class_word(class: Class) -> u64
     }
 }
 
-fn tag_word(tagged: bool) -> u64
-    ensures { result ≡ tag_word tagged }
-{
-    if tagged {
-        return 1;
-    }
-    0
-}
-
 // A pace's mark, and its period, or its rate and samples.
 fn put_pace(out: &mut [u8], k: usize, pace: Pace)
     requires { 8 * (k + pace_width) ≤ length out.old }
     ensures { out.new ≡ stored out.old k (pace_words pace) }
 {
     match pace {
-        Pace::Period(period) => {
-            put_word(out, k, 0);
-            put_word(out, k + 1, period as u64);
-        }
+        Pace::Period(period) => put_words(out, k, &[0, u64::from(period)]),
         Pace::Rated(samples, rate) => {
-            put_three(out, k, 1, rate as u64, samples as u64);
+            put_words(out, k, &[1, u64::from(rate), u64::from(samples)])
         }
     }
 }
@@ -61,15 +48,10 @@ pub fn put_row(out: &mut [u8], k: usize, row: Row)
     requires { 8 * (k + row_width) ≤ length out.old }
     ensures { out.new ≡ stored out.old k (row_words row) }
 {
-    let class = row.class;
-    put_word(out, k, class_word(class));
-    put_three(
-        out,
-        k + 1,
-        tag_word(row.tagged),
-        row.payload as u64,
-        row.deadline as u64,
-    );
-    let pace = row.pace;
-    put_pace(out, k + 4, pace);
+    let class = class_word(row.class);
+    let tag = u64::from(row.tagged);
+    let payload = u64::from(row.payload);
+    let deadline = u64::from(row.deadline);
+    put_words(out, k, &[class, tag, payload, deadline]);
+    put_pace(out, k + 4, row.pace);
 }

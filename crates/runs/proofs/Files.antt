@@ -1,58 +1,69 @@
 -- A table file that is opened: its own refusal, then its table's.
+use Rattle.std.specs.Prelude.{Result, Ok, Err, MatchResult, IsErrAnd}
+use Rattle.std.proofs.lemmas.Result.{err_from_is_err_and}
 use Prim.Native.Nat.{ℕ}
 use mathlib.Core.Bool.{true}
-use mathlib.Core.List.{List, [], ◌∷◌}
+use mathlib.Core.List.{List}
 use mathlib.Core.Path.{◌≡◌, refl, sym, ◌∙◌, ap}
 use Rattle.table.specs.declared.Table.{Table}
 use Rattle.table.specs.declared.Refusal.{Refusal}
-use Rattle.table.specs.declared.Verdict.{Verdict}
-use Rattle.table.specs.declared.Verdict.TheVariants as verdicts
 use Rattle.table.specs.Rows.{contents}
-use Rattle.table.specs.Checks as tables
-use Rattle.table.specs.Checks.{Outcome, refused, first}
+use Rattle.table.specs.Checks.{Outcome, accepted, refused, outcome_of}
 use Rattle.tablefile.specs.declared.Loaded.{Loaded}
-use Rattle.tablefile.specs.declared.Fault.{Fault}
-use Rattle.tablefile.specs.declared.Reading.{Reading}
-use Rattle.tablefile.specs.declared.Reading.TheVariants as readings
-use Rattle.tablefile.specs.Reading as files
-use Rattle.tablefile.specs.Reading.{read_file, Reads}
-use Rattle.machine.specs.declared.AfterOpening.{AfterOpening}
+use Rattle.tablefile.specs.declared.Misread.{Misread}
+use Rattle.tablefile.specs.declared.Unopened.{Unopened}
+use Rattle.tablefile.specs.declared.Unopened.TheVariants as unopened
+use Rattle.tablefile.specs.Reading.{refusal_of, no_table, table_by, read_as, edition_of, read_file, Whole}
+use Rattle.machine.specs.declared.After.{After}
 use Rattle.machine.specs.State.{fresh}
 use Rattle.machine.specs.Calls.{Opened}
-use Rattle.codes.proofs.Laws.{first_one, checked}
+use Rattle.codes.proofs.Laws.{misread, whole}
 use Rattle.texts.specs.declared.lines.Line.TheVariants.{Empty}
 use Rattle.runs.specs.declared.opened.Said.{Said}
 use Rattle.runs.specs.Opened.{Begins}
-use Rattle.runs.specs.Steps.{Says}
+use Rattle.runs.specs.Steps.{tried, FileTried, Says}
 use Rattle.runs.proofs.Buffers.{none_put, none_used}
 
-by_outcome : {o u : Outcome} {before after : List ℕ} {r : Said} → u ≡ o → Says o before after r → Says u before after r
+pub by_outcome : {o u : Outcome} {before after : List ℕ} {r : Said} → u ≡ o → Says o before after r → Says u before after r
 by_outcome e s = rw e s
 
--- ---- what opening says: nothing is printed for a table that is accepted
-pub table_accepted : {v : Verdict} (buffer : List ℕ) → v ≡ verdicts.Accepted → Says (tables.outcome_of v) buffer buffer (record { live = true; count = 0 })
-table_accepted buffer e = by_outcome (ap tables.outcome_of e) (record { text = sym (none_put buffer); count = sym (none_used buffer); live = refl })
+-- ---- what is said: nothing is printed for a file that is accepted
+pub accepted_said : (buffer : List ℕ) → Says accepted buffer buffer (record { live = true; count = 0 })
+accepted_said buffer = record { text = sym (none_put buffer); count = sym (none_used buffer); live = refl }
 
-pub table_refused : {v : Verdict} {before after : List ℕ} {r : Said} (d : Refusal) {n place : ℕ} → v ≡ verdicts.Refused d → n ≡ tables.number_of d → place ≡ tables.place_of d → Says (refused n place) before after r → Says (tables.outcome_of v) before after r
-table_refused d e f g s = by_outcome (rw (e, f, g) refl) s
+-- ---- the file's port
+-- a file that is misread stands for a table of zeros
+no_table_read : (file : List ℕ) {n p : ℕ} → (read_file file).outcome ≡ refused n p → (read_file file).table ≡ no_table
+unfolding read_file read_as
+no_table_read file e = ap (λ (o : Outcome). table_by (edition_of file) o file) e
 
--- ---- what reading says, and then opening
-module _ {a : Reading} (v : Verdict) {before after : List ℕ} {r : Said} where
-  pub file_whole : a ≡ readings.Whole → Says (tables.outcome_of v) before after r → Says (first (files.outcome_of a ∷ tables.outcome_of v ∷ [])) before after r
-  file_whole e s = by_outcome (rw e (first_one (tables.outcome_of v))) s
+pub misread_tried : (file : List ℕ) (m : Misread) → (read_file file).outcome ≡ refusal_of m → {t : Table} → t ≡ no_table → {o : After (Result (Unit {0}) Refusal)} → Opened t o → FileTried file (record { answer = Err (unopened.Misread m); port = o.port })
+misread_tried file m e et made =
+    let same = et ∙ sym (no_table_read file e) in
+    record { answer = sym (misread file m e); port = made.port ∙ ap (λ (t : Table). fresh (contents t)) same; table = made.table ∙ same }
 
-  pub file_refused : (f : Fault) (place : ℕ) {n : ℕ} → a ≡ readings.Refused f place → n ≡ files.number_of f → Says (refused n place) before after r → Says (first (files.outcome_of a ∷ tables.outcome_of v ∷ [])) before after r
-  file_refused f place e m s = by_outcome (rw (e, m) refl) s
+pub whole_tried : (file : List ℕ) {l : Loaded} → Whole (read_file file) l → {o : After (Result (Unit {0}) Refusal)} → Opened l.table o → (a : Result (Unit {0}) Unopened) → tried a ≡ outcome_of o.answer → FileTried file (record { answer = a; port = o.port })
+whole_tried file read made a e =
+    record {
+      answer = e ∙ made.verdict ∙ sym (whole file read refl);
+      port = made.port ∙ ap (λ (t : Table). fresh (contents t)) read.table;
+      table = made.table ∙ read.table;
+    }
+
+-- a table's refusal is the file's
+pub told_on : (a : Result (Unit {0}) Refusal) (r : Result (Unit {0}) Unopened) → MatchResult a (λ x. r ≡ Ok x) (λ e. IsErrAnd r (λ u. u ≡ unopened.Refused e)) → tried r ≡ outcome_of a
+told_on (Ok x) r e = ap tried e
+told_on (Err x) r e = let p = err_from_is_err_and r e in ap tried (p.1 ∙ ap Err p.2)
 
 -- ---- the run on the port
-pub begins : (file : List ℕ) {l : Loaded} → Reads (read_file file) l → {o : AfterOpening} → Opened l.table o → {before after : List ℕ} {r : Said} → Says (first (files.outcome_of l.answer ∷ tables.outcome_of o.verdict ∷ [])) before after r → Begins file before after (record { run = record { port = o.port; line = Empty; live = r.live }; count = r.count })
-begins file {l} read {o} made said =
-    let s = by_outcome (sym (checked file l read o.verdict made.verdict)) said in
+pub begins : (file : List ℕ) {o : After (Result (Unit {0}) Unopened)} → FileTried file o → {before after : List ℕ} {r : Said} → Says (tried o.answer) before after r → Begins file before after (record { run = record { port = o.port; line = Empty; live = r.live }; count = r.count })
+begins file made said =
+    let s = by_outcome (sym made.answer) said in
     record {
       text = s.text;
       count = s.count;
-      state = made.port ∙ ap (λ (t : Table). fresh (contents t)) read.table;
-      table = made.table ∙ read.table;
+      state = made.port;
+      table = made.table;
       line = refl;
       live = s.live;
     }

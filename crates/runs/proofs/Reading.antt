@@ -1,11 +1,11 @@
 -- Whether some bytes are read.
-use Prim.Native.Nat.{ℕ, ◌*◌, ◌≤◌, ◌<◌}
-use mathlib.Core.Bool.{Bool, true, false, ◌&&◌, true≢false}
+use Prim.Native.Nat.{ℕ, ◌*◌, ◌≤◌}
+use mathlib.Core.Bool.{Bool, true, false, true≢false}
 use mathlib.Core.List.{List}
 use mathlib.Core.Path.{◌≡◌, refl, sym, ◌∙◌}
 use lib.Dec.{leb}
 use lib.ListN.{length}
-use borrow.Author.Tests.{le-leb, lt-leb, leb-true}
+use borrow.Author.Tests.{leb-true}
 use Rattle.table.proofs.Laws.{and-true}
 use Rattle.machine.specs.State.{view}
 use Rattle.texts.specs.Text.{line_size}
@@ -13,12 +13,6 @@ use Rattle.runs.specs.declared.Run.{Run}
 use Rattle.runs.specs.declared.Answered.{Answered}
 use Rattle.runs.specs.Runs.{told, is_read, Shows, AnswersTo}
 use Rattle.runs.proofs.Buffers.{none_put, none_used}
-
-pub no_room : (bytes room : ℕ) (live : Bool) → room < line_size * bytes → false ≡ leb (line_size * bytes) room && live
-no_room bytes room live h = rw (lt-leb (line_size * bytes) room h) refl
-
-pub some_room : (bytes room : ℕ) (live : Bool) → line_size * bytes ≤ room → live ≡ leb (line_size * bytes) room && live
-some_room bytes room live h = rw (le-leb (line_size * bytes) room h) refl
 
 module _ (run : Run) (bytes buffer : List ℕ) {b : Bool} (test : b ≡ is_read run bytes buffer) where
   pub not_read : b ≡ false → AnswersTo run bytes buffer buffer (record { run = run; count = 0 })

@@ -17,7 +17,8 @@ use Rattle.texts.specs.declared.lines.Line.TheVariants.{Empty}
 use Rattle.texts.specs.declared.lines.Stepped.{Stepped}
 use Rattle.texts.specs.declared.lines.Stepped.TheVariants.{More, Whole, Other}
 use Rattle.machine.specs.declared.Port.{Port}
-use Rattle.runs.specs.declared.answers.AfterCall.{AfterCall}
+use Rattle.machine.specs.declared.After.{After}
+use Rattle.texts.specs.declared.text.Answer as text
 use Rattle.texts.specs.Lines.{step_of}
 use Rattle.runs.specs.Answers.{answer_of, call_of, Made}
 use Rattle.texts.specs.Text.{line_of, line_size, put_at, used_by}
@@ -82,7 +83,7 @@ module _ (bytes : List ℕ) (first : Port) (begun : Line) (buffer : List ℕ) (r
           let f : record { text = so.text; state = view port; line = line; live = false } ≡ told bytes (view first) begun = sym (one_more ∙ rw (e, append-nil)) in
           shown port line false f so.table (omega arith) so.count so.put
 
-      pub answers : (c : Call) (m : AfterCall) {next : ℕ} {filled : List ℕ} → r ≡ Whole c → Made port (call_of c) m → next ≡ used_by (line_of m.answer) at out → filled ≡ put_at (line_of m.answer) at out → Sofar bytes first begun buffer filled m.port Empty next (i + 1)
+      pub answers : (c : Call) (m : After text.Answer) {next : ℕ} {filled : List ℕ} → r ≡ Whole c → Made port (call_of c) m → next ≡ used_by (line_of m.answer) at out → filled ≡ put_at (line_of m.answer) at out → Sofar bytes first begun buffer filled m.port Empty next (i + 1)
       answers c m {next} {filled} e made n f =
           let line = line_of m.answer in
           let size = same_sized so in

@@ -17,9 +17,8 @@ fn answers(run: Run, s: &[u8], out: &mut [u8]) -> Answered
     let mut port = run.port;
     let mut line = run.line;
     let mut at = 0;
-    let mut i = 0;
-    while i < s.len() {
-        match step(line, s[i]) {
+    for b in s {
+        match step(line, *b) {
             Stepped::More(l) => {
                 line = l;
             }
@@ -27,8 +26,7 @@ fn answers(run: Run, s: &[u8], out: &mut [u8]) -> Answered
                 let m = make(port, call);
                 port = m.port;
                 line = Line::Empty;
-                let a = m.answer;
-                at = put_answer(out, at, a);
+                at = put_answer(out, at, m.answer);
             }
             Stepped::Other => {
                 return Answered {
@@ -41,7 +39,6 @@ fn answers(run: Run, s: &[u8], out: &mut [u8]) -> Answered
                 };
             }
         }
-        i += 1;
     }
     Answered {
         run: Run {
@@ -57,10 +54,7 @@ fn answers(run: Run, s: &[u8], out: &mut [u8]) -> Answered
 fn is_read(live: bool, bytes: usize, room: usize) -> bool
     ensures { result ≡ leb (line_size * bytes) room && live }
 {
-    if room / LINE_SIZE < bytes {
-        return false;
-    }
-    live
+    live && bytes <= room / LINE_SIZE
 }
 
 // Makes the calls of the input's next bytes, and puts their answers at the front of a buffer. Where the run has stopped, or

@@ -1,13 +1,13 @@
 // A table file that is opened, or refused by one line.
-ghost use Rattle.std.specs.Prelude.{[], ◌∷◌};
-ghost use Rattle.table.specs.Checks as tables;
-ghost use Rattle.tablefile.specs.Reading as files;
 ghost use Rattle.runs.specs.Opened.{Begins};
-ghost use Rattle.runs.specs.Steps.{Says};
+ghost use Rattle.runs.specs.Steps.{tried, FileTried, Says};
 
 use crate::{Answered, Run};
-use table::Verdict;
-use tablefile::Reading;
+use machine::After;
+use offers::opening::open;
+use tablefile::Unopened;
+use tablefile::zeros::no_table;
+use tableread::read::read;
 use texts::lines::Line;
 use texts::text::{Answer, put_answer};
 
@@ -18,39 +18,37 @@ struct Said {
     count: usize,
 }
 
-// A refusal's line.
-fn refused(number: u64, place: u64, out: &mut [u8]) -> Said
-    ensures { Says (tables.refused number place) out.old out.new result }
+// A file's port, or why it is not opened. The port is handed out all the same, of a file that is misread that of zeros.
+fn try_open(file: &[u8]) -> After<Result<(), Unopened>>
+    ensures { FileTried file.now result }
 {
-    let count = put_answer(out, 0, Answer::Refused(number, place));
-    Said { live: false, count }
-}
-
-// What opening says.
-fn of_table(verdict: Verdict, out: &mut [u8]) -> Said
-    ensures { Says (tables.outcome_of verdict) out.old out.new result }
-{
-    match verdict {
-        Verdict::Accepted => Said {
-            live: true,
-            count: 0,
+    match read(file) {
+        Ok(l) => {
+            let o = open(l.table);
+            After {
+                answer: o.answer.map_err(Unopened::Refused),
+                port: o.port,
+            }
+        }
+        Err(m) => After {
+            answer: Err(Unopened::Misread(m)),
+            port: open(no_table()).port,
         },
-        Verdict::Refused(r) => refused(
-            table::numbers::number(r),
-            table::numbers::place(r) as u64,
-            out,
-        ),
     }
 }
 
-// A file's refusal, or else what opening says.
-fn of_file(answer: Reading, verdict: Verdict, out: &mut [u8]) -> Said
-    ensures { Says (tables.first (files.outcome_of answer ∷ tables.outcome_of verdict ∷ [])) out.old out.new result }
+// What is said of a file: nothing, or a refusal's line.
+fn say(answer: Result<(), Unopened>, out: &mut [u8]) -> Said
+    ensures { Says (tried answer) out.old out.new result }
 {
     match answer {
-        Reading::Whole => of_table(verdict, out),
-        Reading::Refused(fault, place) => {
-            refused(tablefile::numbers::number(fault), place as u64, out)
+        Ok(()) => Said {
+            live: true,
+            count: 0,
+        },
+        Err(e) => {
+            let count = put_answer(out, 0, Answer::Refused(e.number(), e.place() as u64));
+            Said { live: false, count }
         }
     }
 }
@@ -60,16 +58,11 @@ fn of_file(answer: Reading, verdict: Verdict, out: &mut [u8]) -> Said
 pub fn begin(file: &[u8], out: &mut [u8]) -> Answered
     ensures { Begins file.now out.old out.new result }
 {
-    let l = tableread::read::read(file);
-    let t = l.table;
-    let o = offers::opening::open(t);
-    let answer = l.answer;
-    let verdict = o.verdict;
-    let said = of_file(answer, verdict, out);
-    let port = o.port;
+    let o = try_open(file);
+    let said = say(o.answer, out);
     Answered {
         run: Run {
-            port,
+            port: o.port,
             line: Line::Empty,
             live: said.live,
         },

@@ -12,10 +12,9 @@ use Rattle.table.specs.Limits.{most_rows}
 use Rattle.table.specs.Rows.{no_row, is_there, rows_of, contents}
 use Rattle.table.specs.Checks.{accepted}
 use Rattle.table.proofs.Laws.{every_at, rows_length, next_row, no_row_lem, row_at_lem, in_use_lem}
-use Rattle.planner.specs.declared.Sheet.{Sheet}
 use Rattle.planner.specs.Bound.{bound}
 use Rattle.planner.specs.Opening.{opening}
-use Rattle.planner.specs.Plan.{Shown}
+use Rattle.planner.specs.Plan.{BoundsOf}
 use Rattle.planner.proofs.Laws.{accepted_if, opened_full, bounds_row}
 use Rattle.texts.specs.Text.{Put}
 use Rattle.sheets.specs.Sheet.{heading, row_line, row_lines, text_by, most_text}
@@ -39,17 +38,17 @@ module _ (t : Table) (long : length t.rows ≡ 32) (ok : opening (contents t) �
       let bytes : take at out ≡ text_by accepted (contents t) = sym (append-nil (take at out)) ∙ rw (no_row_lem t long rows_few i h) at l.text in
       record { few = omega (arith, l.few); bytes = bytes; long = omega (arith, length-take-le at out l.inside, ap length bytes) }
 
-  module _ (sheet : Sheet) (shown : Shown (contents t) sheet) {i : ℕ} (h : i < t.count) where
+  module _ {bounds : List ℕ} (shown : BoundsOf (contents t) bounds) {i : ℕ} (h : i < t.count) where
     abbrev line : List ℕ
-    line = row_line i (get_or t.rows i no_row) (get_or sheet.bounds i 0)
+    line = row_line i (get_or t.rows i no_row) (get_or bounds i 0)
 
     -- no number of a table that is opened is empty
     there : is_there (get_or t.rows i no_row) ≡ true
     there = rw (row_at_lem t long rows_few i h) at (every_at (λ r. is_there r ≡ true) (rows_of t) (opened_full (contents t) ok) i (rw (rows_length t) h))
 
     -- the bound of the row at a place is the one that stands there
-    limit : get_or sheet.bounds i 0 ≡ bound (contents t) (get_or t.rows i no_row)
-    limit = rw (shown.bounds, ok) (bounds_row (contents t) i (in_use_lem t long rows_few i h there) ∙ ap (bound (contents t)) (row_at_lem t long rows_few i h))
+    limit : get_or bounds i 0 ≡ bound (contents t) (get_or t.rows i no_row)
+    limit = rw shown.bounds (bounds_row (contents t) i (in_use_lem t long rows_few i h there) ∙ ap (bound (contents t)) (row_at_lem t long rows_few i h))
 
     next_line : row_lines (contents t) i (drop i (rows_of t)) ≡ line ++ row_lines (contents t) (suc i) (drop (suc i) (rows_of t))
     unfolding row_lines

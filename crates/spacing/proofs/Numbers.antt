@@ -68,11 +68,11 @@ unfolding spaced_test period_of paced
 empty_spaced t fs k e = rw (table.not_there (row_at t k) e) (spaced_0 (taken_in k fs))
 
 -- ---- places
-abbrev pub queue_of : Class → Queue → Queue → Queue
+abbrev pub queue_of : Class → Queue class_places → Queue class_places → Queue class_places
 queue_of A a b = a
 queue_of B a b = b
 
-module _ (t : Table) (a b : Queue) where
+module _ (t : Table) (a b : Queue class_places) where
   pub no_row_lem : most_rows < t.count → in_places t a b ≡ false
   unfolding in_places
   no_row_lem h = rw (lt-leb t.count most_rows h) refl

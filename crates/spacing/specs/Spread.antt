@@ -10,16 +10,16 @@ use Rattle.machine.specs.declared.Queue.{Queue}
 use Rattle.machine.specs.Record.{taken_in, sending, up_to, spaced}
 
 -- The frames in a record, on the wire or waiting in a class queue.
-abbrev pub in_record : Wire → Queue → Queue → List Frame
+abbrev pub in_record : Wire → Queue class_places → Queue class_places → List Frame
 in_record w a b = sending w ++ (take a.count a.frames ++ take b.count b.frames)
 
 -- The rows and the frames of both class queues have their places.
-unfoldable pub in_places : Table → Queue → Queue → Bool
+unfoldable pub in_places : Table → Queue class_places → Queue class_places → Bool
 in_places t a b = leb t.count most_rows && (leb a.count class_places && leb b.count class_places)
 
 -- No two frames of a row were taken less than its period apart; and so of all rows, false where rows or frames have no place.
 unfoldable pub spaced_test : Contents → List Frame → ℕ → Bool
 spaced_test t fs k = spaced (period_of (row_at t k)) (taken_in k fs)
 
-abbrev pub spread_test : Wire → Queue → Queue → Table → Bool
+abbrev pub spread_test : Wire → Queue class_places → Queue class_places → Table → Bool
 spread_test w a b t = in_places t a b && up_to t.count (spaced_test (contents t) (in_record w a b))

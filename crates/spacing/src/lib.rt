@@ -3,9 +3,10 @@
 
 pub mod rows;
 
-// Instants, one place for each frame that can be in a record: both class queues, and the wire.
+// The most frames in a record: both class queues, and the wire.
 const MOST_FRAMES: usize = 2 * table::CLASS_PLACES + 1;
 
+// Instants: the first `count` places. (An array with a count: fixed memory, no heap.)
 #[derive(Clone, Copy)]
 struct Instants {
     count: usize,

@@ -1,77 +1,53 @@
 // Whether a row's frames were taken a period apart, in whichever order they stand.
-ghost use Rattle.std.specs.Prelude.{◌≡◌, ◌++◌, ◌+◌, ◌≤◌, ◌<◌, get_or, take, drop};
+ghost use Rattle.std.specs.Prelude.{◌≡◌, ◌++◌, ◌+◌, ◌≤◌, length};
 ghost use Rattle.machine.specs.Limits.{class_places};
 ghost use Rattle.machine.specs.Record.{taken_in, sending, apart, apart_from, spaced};
 ghost use Rattle.spacing.specs.Spread.{spread_test};
 ghost use Rattle.spacing.specs.Steps.{listed, most_frames};
 
 use crate::{Instants, MOST_FRAMES};
-use machine::{Queue, Wire};
+use machine::{Frame, Queue, Wire};
 use table::wire::period;
-use table::{CLASS_PLACES, ROWS, Table};
+use table::{CLASS_PLACES, Table};
 
 // Two instants, whichever is later.
 fn apart(x: u64, y: u64, period: u64) -> bool
     ensures { result ≡ apart period x y }
 {
-    if x < y {
-        return period <= y - x;
-    }
-    period <= x - y
+    period <= x.abs_diff(y)
 }
 
-// The instant at i from each behind it.
-fn apart_from(xs: Instants, i: usize, period: u64) -> bool
-    requires count_le_most_frames { xs.count ≤ most_frames }
-    requires i_lt_count { i < xs.count }
-    ensures { result ≡ apart_from period (get_or xs.taken i 0) (drop (i + 1) (listed xs)) }
+// An instant from each of others.
+fn apart_from(x: u64, others: &[u64], period: u64) -> bool
+    ensures { result ≡ apart_from period x others.now }
 {
-    let n = xs.count;
-    let x = xs.taken[i];
-    let mut j: usize = i + 1;
-    while j < n {
-        if !apart(x, xs.taken[j], period) {
-            return false;
-        }
-        j += 1;
-    }
-    true
+    others.iter().all(|y| apart(x, *y, period))
 }
 
-// Each of the listed instants from each.
-fn all_apart(xs: Instants, period: u64) -> bool
-    requires { xs.count ≤ most_frames }
-    ensures { result ≡ spaced period (listed xs) }
+// Each instant from each.
+fn all_apart(xs: &[u64], period: u64) -> bool
+    ensures { result ≡ spaced period xs.now }
 {
-    let n = xs.count;
-    let mut i: usize = 0;
-    while i < n {
-        if !apart_from(xs, i, period) {
+    for (i, x) in xs.iter().enumerate() {
+        if !apart_from(*x, &xs[i + 1..], period) {
             return false;
         }
-        i += 1;
     }
     true
 }
 
 // The instants of row k's frames that wait in a class's queue, behind others.
-fn with_queue(xs: Instants, q: Queue, k: usize) -> Instants
-    requires count_bound { xs.count ≤ class_places + 1 }
-    requires count_le_class_places { q.count ≤ class_places }
-    ensures result_value { listed result ≡ listed xs ++ taken_in k (take q.count q.frames) }
-    ensures few { result.count ≤ xs.count + q.count }
+fn with_queue(xs: Instants, frames: &[Frame], k: usize) -> Instants
+    requires { xs.count + length frames.now ≤ most_frames }
+    ensures result_value { listed result ≡ listed xs ++ taken_in k frames.now }
+    ensures few { result.count ≤ xs.count + length frames.now }
 {
-    let n = q.count;
     let mut next = xs;
-    let mut i: usize = 0;
-    while i < n {
-        let f = q.frames[i];
+    for f in frames {
         if f.source as usize == k {
-            let m = next.count;
-            next.taken[m] = f.taken;
-            next.count = m + 1;
+            next.taken[next.count] = f.taken;
+            next.count += 1;
         }
-        i += 1;
     }
     next
 }
@@ -95,38 +71,32 @@ fn on_wire(w: Wire, k: usize) -> Instants
 }
 
 // The frames of row k in a record.
-fn spread_ok(k: usize, period: u64, w: Wire, a: Queue, b: Queue) -> bool
-    requires count_le_class_places { a.count ≤ class_places }
-    requires count_le_class_places_2 { b.count ≤ class_places }
-    ensures { result ≡ spaced period (taken_in k (sending w ++ (take a.count a.frames ++ take b.count b.frames))) }
+fn spread_ok(k: usize, period: u64, w: Wire, a: &[Frame], b: &[Frame]) -> bool
+    requires a_fits { length a.now ≤ class_places }
+    requires b_fits { length b.now ≤ class_places }
+    ensures { result ≡ spaced period (taken_in k (sending w ++ (a.now ++ b.now))) }
 {
-    let first = on_wire(w, k);
-    let next = with_queue(first, a, k);
-    let all = with_queue(next, b, k);
-    all_apart(all, period)
+    let xs = with_queue(with_queue(on_wire(w, k), a, k), b, k);
+    all_apart(&xs.taken[..xs.count], period)
 }
 
 // No two frames of a row were taken less than its period apart, in whichever order they stand; false where rows or frames have no place.
-pub fn all_spread(w: Wire, a: Queue, b: Queue, t: Table) -> bool
+pub fn all_spread(w: Wire, a: Queue<CLASS_PLACES>, b: Queue<CLASS_PLACES>, t: Table) -> bool
     ensures { result ≡ spread_test w a b t }
 {
-    if ROWS < t.count {
+    let Some(rows) = t.rows.get(..t.count) else {
         return false;
-    }
-    if CLASS_PLACES < a.count {
+    };
+    let Some(ina) = a.frames.get(..a.count) else {
         return false;
-    }
-    if CLASS_PLACES < b.count {
+    };
+    let Some(inb) = b.frames.get(..b.count) else {
         return false;
-    }
-    let rows = t.count;
-    let mut i: usize = 0;
-    while i < rows {
-        let row = t.rows[i];
-        if !spread_ok(i, period(row), w, a, b) {
+    };
+    for (k, row) in rows.iter().enumerate() {
+        if !spread_ok(k, period(*row), w, ina, inb) {
             return false;
         }
-        i += 1;
     }
     true
 }

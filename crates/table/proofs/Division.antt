@@ -1,24 +1,14 @@
 -- Quotients rounded up.
-use Prim.Native.Nat.{ℕ, zero, suc, ◌+◌, ◌-◌, ◌*◌, ◌/◌, ◌≤◌, ◌<◌}
-use mathlib.Core.Path.{◌≡◌, sym}
+use Prim.Native.Nat.{ℕ, zero, suc, ◌+◌, ◌-◌, ◌*◌, ◌/◌, ◌%◌, ◌≤◌, ◌<◌, min}
+use mathlib.Core.Path.{◌≡◌}
 use native.Mathlib.Omega.{arith}
-use native.Mathlib.Nat.{div-zero, div-eq_of_lt, div-lt_iff_lt-mul, le-div_iff_mul-le, lt-div-mul-add, le-mul_of_pos_right, le_refl, le_trans, suc-mul, add-div_right}
+use native.Mathlib.Nat.{div-zero, div-lt_iff_lt-mul, le-div_iff_mul-le, lt-div-mul-add, le-mul_of_pos_right, le_refl, le_trans, suc-mul}
+use Rattle.std.proofs.lemmas.Grind.{div_ceil_times}
 use Rattle.table.specs.Wire.{ceil_div}
 
 pub ceil_by_zero : (n : ℕ) → ceil_div n 0 ≡ 0
 unfolding ceil_div
 ceil_by_zero n = div-zero (n + (0 - 1))
-
-pub ceil_of_zero : (d : ℕ) → 0 < d → ceil_div 0 d ≡ 0
-unfolding ceil_div
-ceil_of_zero d pos = div-eq_of_lt (omega arith)
-
--- of a number above 0: one more than the quotient of the number before it
-pub ceil_next : (n d : ℕ) → 0 < n → 0 < d → (n - 1) / d + 1 ≡ ceil_div n d
-unfolding ceil_div
-ceil_next n d some pos =
-    let e : n + (d - 1) ≡ (n - 1) + d = omega arith in
-    rw e (sym (add-div_right (n - 1) pos))
 
 -- rounded up: at least the quotient
 pub ceil_covers : (n d : ℕ) → 0 < d → n ≤ ceil_div n d * d
@@ -36,6 +26,16 @@ ceil_most n d q pos h =
 pub ceil_above : (n d q : ℕ) → 0 < d → q * d < n → q < ceil_div n d
 unfolding ceil_div
 ceil_above n d q pos h = (le-div_iff_mul-le {k = d} {x = suc q} {y = n + (d - 1)} pos).1 (rw (suc-mul q d) (omega arith))
+
+-- as the library rounds up: one more than the quotient where there is a remainder
+pub ceil_is : (n d : ℕ) → 0 < d → n / d + min 1 (n % d) ≡ ceil_div n d
+ceil_is n d pos =
+    let b = div_ceil_times n d pos in
+    omega (arith, ceil_most n d (n / d + min 1 (n % d)) pos b.0, reached (n / d + min 1 (n % d)) b.1)
+  where
+    reached : (q : ℕ) → q * d < n + d → q ≤ ceil_div n d
+    reached zero h = omega arith
+    reached (suc q) h = let g = rw suc-mul at h in omega (arith, ceil_above n d q pos (omega arith))
 
 pub ceil_le : (n d : ℕ) → ceil_div n d ≤ n
 ceil_le n zero = rw (ceil_by_zero n) (omega arith)

@@ -17,8 +17,7 @@ use Rattle.table.specs.declared.Header.{Header}
 use Rattle.table.specs.declared.Table.{Table}
 use Rattle.table.specs.declared.Refusal.{Refusal}
 use Rattle.table.specs.declared.Refusal.TheVariants.{RowCount, Value, Slopes, Shares, Deadline, Frames}
-use Rattle.table.specs.declared.Verdict.{Verdict}
-use Rattle.table.specs.declared.Verdict.TheVariants.{Accepted, Refused}
+use Rattle.std.specs.Prelude.{Result, Ok, Err}
 use Rattle.table.specs.Limits.{most_rows, most_slope, most_payload, least_size, most_size, least_period, most_period, least_rate, most_rate, most_samples, most_deadline, second}
 use Rattle.table.specs.Wire.{wire_size, tagged_size, size_for, size_of, paced, period_of}
 use Rattle.table.specs.Rows.{no_row, is_zero, is_there, Contents, contents, row_at, in_use, InUse, same_class}
@@ -28,7 +27,7 @@ use Rattle.table.proofs.Shape.{row_here}
 -- a table record's places and rows, and quotients rounded up
 pub use Rattle.table.proofs.Shape.{places, rows_length, rows_are, row_in_place, next_row, no_row_lem}
 pub use Rattle.table.proofs.Search.{Passed, none_yet, fails_here, passes_here, all_passed}
-pub use Rattle.table.proofs.Ranged.{count_right_lem, count_low, count_high, header_wrong, row_wrong, all_right}
+pub use Rattle.table.proofs.Ranged.{count_is, count_few, count_right_lem, count_low, count_high, header_wrong, row_wrong, all_right}
 -- rows that join and leave
 pub use Rattle.table.proofs.Patched.{not_there, no_row_there, there_used, with_length, with_same, with_other, row_with, row_with_other, with_used, with_still, with_before, row_without, without_gone, without_before, without_count, without_length, trimmed_length}
 pub use Rattle.table.proofs.Division.{ceil_covers, ceil_most, ceil_above, ceil_le, div_grows, ceil_grows}
@@ -55,16 +54,16 @@ refusal_said (Deadline k) = refl
 refusal_said (Frames A) = refl
 refusal_said (Frames B) = refl
 
-abbrev verdict_by : Outcome → Verdict
-verdict_by accepted = Accepted
-verdict_by (refused n p) = Refused (refusal_by n p)
+abbrev verdict_by : Outcome → Result (Unit {0}) Refusal
+verdict_by accepted = Ok tt
+verdict_by (refused n p) = Err (refusal_by n p)
 
-said : (v : Verdict) → verdict_by (outcome_of v) ≡ v
-said Accepted = refl
-said (Refused r) = ap Refused (refusal_said r)
+said : (v : Result (Unit {0}) Refusal) → verdict_by (outcome_of v) ≡ v
+said (Ok u) = refl
+said (Err r) = ap Err (refusal_said r)
 
 -- different verdicts have different numbers or places, so an outcome fixes the verdict
-pub same_verdict : (v w : Verdict) → outcome_of v ≡ outcome_of w → v ≡ w
+pub same_verdict : (v w : Result (Unit {0}) Refusal) → outcome_of v ≡ outcome_of w → v ≡ w
 same_verdict v w e = sym (said v) ∙ ap verdict_by e ∙ said w
 
 -- the first to refuse is none: each accepts

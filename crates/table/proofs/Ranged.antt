@@ -1,8 +1,11 @@
 -- Rules 3 and 5 by a table record's own count, its header and how many of its rows are in range: each check that fails decides.
 use Prim.Native.Nat.{ℕ, ◌≤◌, ◌<◌}
-use mathlib.Core.Bool.{true, false}
-use mathlib.Core.Path.{◌≡◌, refl}
+use mathlib.Core.Bool.{true, false, ◌&&◌}
+use mathlib.Core.Path.{◌≡◌, refl, ◌∙◌}
+use lib.Dec.{leb}
+use native.Mathlib.Omega.{arith}
 use borrow.Author.Tests.{le-leb, lt-leb}
+use Rattle.std.proofs.lemmas.Bool.Decides.{nat_tests}
 use Rattle.table.specs.declared.Table.{Table}
 use Rattle.table.specs.Rows.{rows_of, contents}
 use Rattle.table.specs.Checks.{accepted, refused, passing}
@@ -10,6 +13,20 @@ use Rattle.table.specs.Ranges.{count_ok, header_ok, row_ok, ranged}
 use Rattle.table.proofs.Shape.{rows_length}
 
 module _ (t : Table) where
+  pub count_is : (leb 1 t.count && leb t.count 32) ≡ count_ok (rows_of t)
+  unfolding count_ok
+  count_is = rw (rows_length t) refl
+
+  pub count_wrong : count_ok (rows_of t) ≡ false → refused 3 0 ≡ ranged (contents t)
+  unfolding ranged
+  count_wrong e = rw e refl
+
+  pub count_few : count_ok (rows_of t) ≡ true → t.count ≤ 32
+  count_few e = within t.count (count_is ∙ e)
+    where
+      within : (n : ℕ) → (leb 1 n && leb n 32) ≡ true → n ≤ 32
+      within n h = grind (arith, nat_tests)
+
   pub count_right_lem : 1 ≤ t.count → t.count ≤ 32 → count_ok (rows_of t) ≡ true
   unfolding count_ok
   count_right_lem l h = rw (rows_length t, le-leb _ _ l, le-leb _ _ h) refl

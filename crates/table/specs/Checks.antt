@@ -1,12 +1,10 @@
 -- Outcomes, and checks in the order given, of which the first that fails decides.
-use Rattle.std.specs.Prelude.{ℕ, suc, Bool, true, false, cond, List, [], ◌∷◌, ◌++◌, leb, length, drop}
+use Rattle.std.specs.Prelude.{ℕ, suc, Bool, true, false, cond, List, [], ◌∷◌, ◌++◌, leb, length, drop, Result, Ok, Err}
 use Rattle.table.specs.declared.Class.{Class}
 use Rattle.table.specs.declared.Class.TheVariants.{A, B}
 use Rattle.table.specs.declared.Row.{Row}
 use Rattle.table.specs.declared.Refusal.{Refusal}
 use Rattle.table.specs.declared.Refusal.TheVariants.{RowCount, Value, Slopes, Shares, Deadline, Frames}
-use Rattle.table.specs.declared.Verdict.{Verdict}
-use Rattle.table.specs.declared.Verdict.TheVariants.{Accepted, Refused}
 
 -- What an operation says: yes, or no with a number and a place.
 pub data Outcome : Type 0 where
@@ -35,9 +33,9 @@ place_of (Shares c) = place_of_class c
 place_of (Deadline k) = k
 place_of (Frames c) = place_of_class c
 
-abbrev pub outcome_of : Verdict → Outcome
-outcome_of Accepted = accepted
-outcome_of (Refused r) = refused (number_of r) (place_of r)
+abbrev pub outcome_of : Result (Unit {0}) Refusal → Outcome
+outcome_of (Ok u) = accepted
+outcome_of (Err r) = refused (number_of r) (place_of r)
 
 -- A check that gives a number and a place where its test fails.
 abbrev pub unless : Bool → ℕ → ℕ → Outcome

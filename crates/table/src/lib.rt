@@ -1,7 +1,6 @@
 // A port's table: its types, the wire sizes, periods and shares of its rows, and which values are in range.
 #![tactic(auto)]
 
-pub mod classes;
 pub mod numbers;
 pub mod quotient;
 pub mod ranges;
@@ -15,7 +14,7 @@ pub const ROWS: usize = 32;
 pub const CLASS_PLACES: usize = 64;
 
 // A shaped class.
-#[derive(Clone, Copy)]
+#[derive(Clone, Copy, PartialEq, Eq)]
 pub enum Class {
     A,
     B,
@@ -46,7 +45,7 @@ pub struct Header {
     pub payload: u16,
 }
 
-// A port's table: its header, its row count, which is one above the highest number in use, and the places. (Of any content, until it is checked.)
+// A port's table: its header, its row count, which is one above the highest number in use, and the places. (Of any content, until it is checked; an array with a count, since memory is fixed and a count above the places is judged too.)
 #[derive(Clone, Copy)]
 pub struct Table {
     pub header: Header,
@@ -58,17 +57,10 @@ pub struct Table {
 #[derive(Clone, Copy)]
 pub enum Refusal {
     RowCount,
-    // The row, or 32 for a header value.
+    // The row, or 32 for a header value. (Stays a number: its number and place fix a refusal, `refusal_said`, proofs/Laws.antt.)
     Value(usize),
     Slopes,
     Shares(Class),
     Deadline(usize),
     Frames(Class),
-}
-
-// The answer to a table: accepted, or refused and why.
-#[derive(Clone, Copy)]
-pub enum Verdict {
-    Accepted,
-    Refused(Refusal),
 }

@@ -1,12 +1,10 @@
 // Whether a table's values are in range: refusals 3 and 5.
-ghost use Rattle.std.specs.Prelude.{◌≡◌, ◌≤◌};
-ghost use Rattle.table.specs.declared.Pace.{Pace};
-ghost use Rattle.table.specs.Limits.{most_rows};
-ghost use Rattle.table.specs.Rows.{rows_of, contents};
-ghost use Rattle.table.specs.Checks.{outcome_of, passing};
-ghost use Rattle.table.specs.Ranges.{header_ok, within, period_ok, rate_ok, samples_ok, pace_ok, deadline_ok, row_ok, ranged};
+ghost use Rattle.std.specs.Prelude.{◌≡◌, not, position};
+ghost use Rattle.table.specs.Rows.{contents};
+ghost use Rattle.table.specs.Checks.{outcome_of};
+ghost use Rattle.table.specs.Ranges.{header_ok, period_ok, rate_ok, samples_ok, pace_ok, deadline_ok, row_ok, ranged};
 
-use crate::{Header, Pace, ROWS, Refusal, Row, Table, Verdict};
+use crate::{Header, Pace, ROWS, Refusal, Row, Table};
 
 // The place of a header value where rows are places.
 pub const HEADER_PLACE: usize = 32;
@@ -30,37 +28,23 @@ const LEAST_RATE: u32 = 1000;
 
 const MOST_RATE: u32 = 200_000;
 
+#[tactic(auto, unfolding(crate::specs::Ranges::header_ok))]
 pub fn header_ok(h: Header) -> bool
     ensures { result ≡ header_ok h }
 {
-    if MOST_SLOPE < h.idlea {
-        return false;
-    }
-    if MOST_SLOPE < h.idleb {
-        return false;
-    }
-    h.payload <= MOST_PAYLOAD
-}
-
-fn is_within(low: u32, high: u32, v: u32) -> bool
-    ensures { result ≡ within low high v }
-{
-    if v < low {
-        return false;
-    }
-    v <= high
+    h.idlea <= MOST_SLOPE && h.idleb <= MOST_SLOPE && h.payload <= MOST_PAYLOAD
 }
 
 pub fn period_ok(p: u32) -> bool
     ensures { result ≡ period_ok p }
 {
-    is_within(LEAST_PERIOD, MOST_PERIOD, p)
+    (LEAST_PERIOD..=MOST_PERIOD).contains(&p)
 }
 
 pub fn rate_ok(rate: u32) -> bool
     ensures { result ≡ rate_ok rate }
 {
-    is_within(LEAST_RATE, MOST_RATE, rate)
+    (LEAST_RATE..=MOST_RATE).contains(&rate)
 }
 
 // The field holds no more than 255.
@@ -70,77 +54,49 @@ pub fn samples_ok(samples: u8) -> bool
     1 <= samples
 }
 
-fn rated_ok(samples: u8, rate: u32) -> bool
-    ensures { result ≡ pace_ok (Pace.Rated samples rate) }
-{
-    if !rate_ok(rate) {
-        return false;
-    }
-    samples_ok(samples)
-}
-
+#[tactic(auto, unfolding(crate::specs::Ranges::pace_ok))]
 fn pace_ok(pace: Pace) -> bool
     ensures { result ≡ pace_ok pace }
 {
     match pace {
         Pace::Period(p) => period_ok(p),
-        Pace::Rated(samples, rate) => rated_ok(samples, rate),
+        Pace::Rated(samples, rate) => rate_ok(rate) && samples_ok(samples),
     }
 }
 
 pub fn deadline_ok(deadline: u32) -> bool
     ensures { result ≡ deadline_ok deadline }
 {
-    is_within(1, MOST_DEADLINE, deadline)
+    (1..=MOST_DEADLINE).contains(&deadline)
 }
 
+#[tactic(auto, unfolding(crate::specs::Ranges::row_ok))]
 pub fn row_ok(row: Row) -> bool
     ensures { result ≡ row_ok row }
 {
-    let pace = row.pace;
-    if MOST_PAYLOAD < row.payload {
-        return false;
-    }
-    if !pace_ok(pace) {
-        return false;
-    }
-    deadline_ok(row.deadline)
+    row.payload <= MOST_PAYLOAD && pace_ok(row.pace) && deadline_ok(row.deadline)
 }
 
-// How many rows are in range before the first that is not.
-fn in_range(t: Table) -> usize
-    requires { t.count ≤ most_rows }
-    ensures { result ≡ passing row_ok (rows_of t) }
+// The first row that is out of range.
+fn out_of_range(rows: &[Row]) -> Option<usize>
+    ensures { result ≡ position (λ r. not (row_ok r)) rows.now }
 {
-    let n = t.count;
-    let mut i: usize = 0;
-    while i < n {
-        if !row_ok(t.rows[i]) {
-            return i;
-        }
-        i += 1;
-    }
-    i
+    rows.iter().position(|row| !row_ok(*row))
 }
 
 // The row count, then the header values, then the rows in order.
-pub fn ranges(t: Table) -> Verdict
+pub fn ranges(t: Table) -> Result<(), Refusal>
     ensures { outcome_of result ≡ ranged (contents t) }
 {
     let n = t.count;
-    if n < 1 {
-        return Verdict::Refused(Refusal::RowCount);
+    if !(1..=ROWS).contains(&n) {
+        return Err(Refusal::RowCount);
     }
-    if ROWS < n {
-        return Verdict::Refused(Refusal::RowCount);
+    if !header_ok(t.header) {
+        return Err(Refusal::Value(HEADER_PLACE));
     }
-    let h = t.header;
-    if !header_ok(h) {
-        return Verdict::Refused(Refusal::Value(HEADER_PLACE));
+    match out_of_range(&t.rows[..n]) {
+        Some(row) => Err(Refusal::Value(row)),
+        None => Ok(()),
     }
-    let row = in_range(t);
-    if row < n {
-        return Verdict::Refused(Refusal::Value(row));
-    }
-    Verdict::Accepted
 }

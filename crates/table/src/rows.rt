@@ -2,7 +2,6 @@
 ghost use Rattle.std.specs.Prelude.{◌≡◌};
 ghost use Rattle.table.specs.Rows.{no_row, is_zero, is_there};
 
-use crate::classes::same_class;
 use crate::{Class, Pace, Row};
 
 // An empty number has it, and an unused place after reading.
@@ -21,29 +20,17 @@ pub fn no_row() -> Row
 fn is_zero(pace: Pace) -> bool
     ensures { result ≡ is_zero pace }
 {
-    match pace {
-        Pace::Period(p) => p == 0,
-        Pace::Rated(_, _) => false,
-    }
+    matches!(pace, Pace::Period(0))
 }
 
 // Whether a row is there: not all of it is zeros. (Each row in range has a deadline, so this is one test for it.)
+#[tactic(auto, unfolding(crate::specs::Rows::is_there))]
 pub fn is_there(row: Row) -> bool
     ensures { result ≡ is_there row }
 {
-    if row.deadline != 0 {
-        return true;
-    }
-    if row.payload != 0 {
-        return true;
-    }
-    if row.tagged {
-        return true;
-    }
-    let class = row.class;
-    if !same_class(Class::A, class) {
-        return true;
-    }
-    let pace = row.pace;
-    !is_zero(pace)
+    row.deadline != 0
+        || row.payload != 0
+        || row.tagged
+        || row.class != Class::A
+        || !is_zero(row.pace)
 }

@@ -1,5 +1,5 @@
 -- What a list of bytes reads as: an edition and a table, or the first refusal with its place. Checks are in file order, but for the deadline's range and default.
-use Rattle.std.specs.Prelude.{ℕ, zero, suc, ◌+◌, ◌-◌, Bool, true, false, not, cond, ◌&&◌, List, [], ◌∷◌, ◌++◌, ◌≡◌, leb, eqb, length, get_or, drop, replicate}
+use Rattle.std.specs.Prelude.{ℕ, zero, suc, ◌+◌, ◌-◌, Bool, true, false, not, cond, ◌&&◌, List, [], ◌∷◌, ◌++◌, ◌≡◌, leb, eqb, length, get_or, drop, replicate, Result, Ok, Err}
 use Rattle.table.specs.declared.Class.{Class}
 use Rattle.table.specs.declared.Pace.{Pace}
 use Rattle.table.specs.declared.Pace.TheVariants as paces
@@ -9,14 +9,16 @@ use Rattle.table.specs.declared.Table.{Table}
 use Rattle.table.specs.Limits.{most_rows, most_slope, most_payload}
 use Rattle.table.specs.Rows.{no_row}
 use Rattle.table.specs.Checks.{Outcome, accepted, refused, unless, first}
+use Rattle.table.specs.Checks as checks
 use Rattle.table.specs.Ranges.{period_ok, rate_ok, samples_ok, deadline_ok}
 use Rattle.tablefile.specs.declared.Edition.{Edition}
 use Rattle.tablefile.specs.declared.Edition.TheVariants.{Avb1, Avb2}
 use Rattle.tablefile.specs.declared.Fault.{Fault}
 use Rattle.tablefile.specs.declared.Fault.TheVariants.{CutShort, Letters, RowCount, MapBit, OutOfRange, StatesDefault, Trailing, TwoPaces}
-use Rattle.tablefile.specs.declared.Reading.{Reading}
-use Rattle.tablefile.specs.declared.Reading.TheVariants.{Whole, Refused}
+use Rattle.tablefile.specs.declared.Misread.{Misread}
 use Rattle.tablefile.specs.declared.Loaded.{Loaded}
+use Rattle.tablefile.specs.declared.Unopened.{Unopened}
+use Rattle.tablefile.specs.declared.Unopened.TheVariants as unopened
 use Rattle.tablefile.specs.Layout.{letters, header_size, idlea_place, idleb_place, best_place, count_place, value_at, Field, Payload, Period, Deadline, Rate, Samples, value_of, width_of, default_payload, default_period, default_deadline, usual, bit_of, reserved_clear, tagged_of, two_paces, class_of, place_of, row_size}
 
 -- The number of each case of the fault enum.
@@ -30,10 +32,25 @@ number_of StatesDefault = 6
 number_of Trailing = 7
 number_of TwoPaces = 19
 
--- The outcome that each case of the answer enum stands for.
-abbrev pub outcome_of : Reading → Outcome
-outcome_of Whole = accepted
-outcome_of (Refused f place) = refused (number_of f) place
+-- The refusal that a misread stands for, and the outcome of what may be misread.
+abbrev pub refusal_of : Misread → Outcome
+refusal_of m = refused (number_of m.fault) m.place
+
+abbrev pub outcome_of : {X : Type 0} → Result X Misread → Outcome
+outcome_of (Ok x) = accepted
+outcome_of (Err m) = refusal_of m
+
+-- The number and the place of a file that is not opened: its own, or its table's.
+abbrev pub unopened_number : Unopened → ℕ
+unopened_number (unopened.Misread m) = number_of m.fault
+unopened_number (unopened.Refused r) = checks.number_of r
+
+abbrev pub unopened_place : Unopened → ℕ
+unopened_place (unopened.Misread m) = m.place
+unopened_place (unopened.Refused r) = checks.place_of r
+
+abbrev pub unopened_by : Unopened → Outcome
+unopened_by e = refused (unopened_number e) (unopened_place e)
 
 -- ---- The header: IA u32, IB u32, best-effort payload u16, row count u8.
 unfoldable pub opens : Edition → List ℕ → Bool
@@ -200,8 +217,12 @@ edition_of s = cond (opens Avb2 s) Avb2 Avb1
 unfoldable pub read_file : List ℕ → FileRead
 read_file s = read_as (edition_of s) s
 
--- The promise of reading: the answer, the edition and the table are those of what the file reads as.
-pub record Reads (f : FileRead) (r : Loaded) : Type 0 where
-  pub answer : outcome_of r.answer ≡ f.outcome
-  pub edition : r.edition ≡ f.edition
-  pub table : r.table ≡ f.table
+-- The promise of reading: the edition and the table are those of what the file reads as, where it is accepted; and else its refusal is the misread's.
+pub record Whole (f : FileRead) (l : Loaded) : Type 0 where
+  pub outcome : f.outcome ≡ accepted
+  pub edition : l.edition ≡ f.edition
+  pub table : l.table ≡ f.table
+
+abbrev pub Reads : FileRead → Result Loaded Misread → Type 0
+Reads f (Ok l) = Whole f l
+Reads f (Err m) = f.outcome ≡ refusal_of m

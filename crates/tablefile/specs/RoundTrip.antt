@@ -1,12 +1,12 @@
 -- Reading and writing undo each other within one edition: the theorems' statements. Each holds of every edition.
-use Rattle.std.specs.Prelude.{ℕ, ◌-◌, ◌<◌, List, [], ◌∷◌, ◌≡◌, length, drop, replicate}
+use Rattle.std.specs.Prelude.{ℕ, ◌-◌, ◌<◌, List, [], ◌∷◌, ◌≡◌, length, drop, replicate, Result}
 use Rattle.table.specs.Limits.{most_rows}
 use Rattle.table.specs.Rows.{no_row, Contents, contents}
 use Rattle.table.specs.Checks.{accepted}
 use Rattle.tablefile.specs.declared.Edition.{Edition}
-use Rattle.tablefile.specs.declared.Reading.{Reading}
+use Rattle.tablefile.specs.declared.Misread.{Misread}
 use Rattle.tablefile.specs.Reading.{outcome_of, FileRead, read_as, read_file}
-use Rattle.tablefile.specs.declared.Writing.{Writing}
+use Rattle.tablefile.specs.declared.Unwritten.{Unwritten}
 use Rattle.tablefile.specs.Writing as writes
 use Rattle.tablefile.specs.Writing.{file_of, writable}
 
@@ -44,8 +44,8 @@ AsLong = (s : List ℕ) → Bytes s → (read_file s).outcome ≡ accepted → l
 
 -- Different answers of reading have different numbers or places.
 abbrev pub SameReading : Type 0
-SameReading = (a b : Reading) → outcome_of a ≡ outcome_of b → a ≡ b
+SameReading = (a b : Result (Unit {0}) Misread) → outcome_of a ≡ outcome_of b → a ≡ b
 
 -- Different answers of writing have different numbers, places or lengths.
 abbrev pub SameWriting : Type 0
-SameWriting = (a b : Writing) → writes.outcome_of a ≡ writes.outcome_of b → writes.length_of a ≡ writes.length_of b → a ≡ b
+SameWriting = (a b : Result ℕ Unwritten) → writes.outcome_of a ≡ writes.outcome_of b → writes.length_of a ≡ writes.length_of b → a ≡ b

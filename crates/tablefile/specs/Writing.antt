@@ -1,13 +1,13 @@
 -- The bytes of a table's file in an edition, and what writing it leaves in a lent buffer.
-use Rattle.std.specs.Prelude.{ℕ, ◌+◌, cond, List, [], ◌∷◌, ◌++◌, ◌≡◌, leb, length}
+use Rattle.std.specs.Prelude.{ℕ, ◌+◌, cond, List, [], ◌∷◌, ◌++◌, ◌≡◌, leb, length, Result, Ok, Err}
 use Rattle.table.specs.declared.Row.{Row}
 use Rattle.table.specs.declared.Table.{Table}
 use Rattle.table.specs.Rows.{Contents, contents}
 use Rattle.table.specs.Checks.{Outcome, accepted, refused, unless, unless_row, first, over}
 use Rattle.table.specs.Ranges.{ranged}
 use Rattle.tablefile.specs.declared.Edition.{Edition}
-use Rattle.tablefile.specs.declared.Writing.{Writing}
-use Rattle.tablefile.specs.declared.Writing.TheVariants.{Written, TooShort, Tagged, Refused}
+use Rattle.tablefile.specs.declared.Unwritten.{Unwritten}
+use Rattle.tablefile.specs.declared.Unwritten.TheVariants.{TooShort, Tagged, Refused}
 use Rattle.tablefile.specs.Layout.{letters, bytes_of, Field, Payload, Period, Deadline, Rate, Samples, value_of, width_of, states, weight_of, bit_of, allows, tag_bit, class_bit}
 use Rattle.table.specs.Checks as checks
 
@@ -43,25 +43,26 @@ writable e t = first (ranged t ∷ unless_row (allows e) t.rows 23 ∷ [])
 unfoldable pub write_check : Edition → Contents → List ℕ → Outcome
 write_check e t buffer = first (writable e t ∷ unless (leb (length (file_of e t)) (length buffer)) 17 0 ∷ [])
 
--- The outcome that each case of the answer enum stands for; an answer that is no refusal carries the length.
-abbrev pub outcome_of : Writing → Outcome
-outcome_of (Written n) = accepted
-outcome_of TooShort = refused 17 0
-outcome_of (Tagged k) = refused 23 k
-outcome_of (Refused r) = refused (checks.number_of r) (checks.place_of r)
+-- The outcome that each case stands for; one that is no refusal carries the length.
+abbrev pub refusal_of : Unwritten → Outcome
+refusal_of TooShort = refused 17 0
+refusal_of (Tagged k) = refused 23 k
+refusal_of (Refused r) = refused (checks.number_of r) (checks.place_of r)
 
-abbrev pub length_of : Writing → ℕ
-length_of (Written n) = n
-length_of TooShort = 0
-length_of (Tagged k) = 0
-length_of (Refused r) = 0
+abbrev pub outcome_of : Result ℕ Unwritten → Outcome
+outcome_of (Ok n) = accepted
+outcome_of (Err u) = refusal_of u
+
+abbrev pub length_of : Result ℕ Unwritten → ℕ
+length_of (Ok n) = n
+length_of (Err u) = 0
 
 abbrev pub length_by : Outcome → Edition → Contents → ℕ
 length_by accepted e t = length (file_of e t)
 length_by (refused n p) e t = 0
 
 -- The promise of writing. The buffer: the file's bytes, then its own bytes behind them; at a refusal every byte as it was.
-pub record Writes (e : Edition) (t : Table) (before after : List ℕ) (w : Writing) : Type 0 where
+pub record Writes (e : Edition) (t : Table) (before after : List ℕ) (w : Result ℕ Unwritten) : Type 0 where
   pub answer : outcome_of w ≡ write_check e (contents t) before
   pub size : length_of w ≡ length_by (write_check e (contents t) before) e (contents t)
   pub buffer : after ≡ over (write_check e (contents t) before) (file_of e (contents t)) before

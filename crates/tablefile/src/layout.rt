@@ -60,7 +60,7 @@ const RESERVED_WEIGHT: u8 = 32;
 
 const CLASS_WEIGHT: u8 = 128;
 
-// What a map byte says: which fields stand, whether no reserved bit does, whether the row is tagged, whether both paces stand, and the class.
+// What a map byte says: which fields stand, whether no reserved bit does, whether the row is tagged, whether both paces stand, and the class. (A function for each named bit: with the weight as a parameter they would be no plainer.)
 pub fn payload_stands(map: u8) -> bool
     ensures { result ≡ bit_of Payload map }
 {
@@ -109,31 +109,23 @@ pub fn tagged_of(edition: Edition, map: u8) -> bool
 pub fn allowed(edition: Edition, row: Row) -> bool
     ensures { result ≡ allows edition row }
 {
-    if !row.tagged {
-        return true;
-    }
-    match edition {
-        Edition::Avb1 => false,
-        Edition::Avb2 => true,
-    }
+    !row.tagged || matches!(edition, Edition::Avb2)
 }
 
 pub fn two_paces(map: u8) -> bool
     ensures { result ≡ two_paces map }
 {
-    if period_stands(map) {
-        return rate_stands(map);
-    }
-    false
+    period_stands(map) && rate_stands(map)
 }
 
 pub fn class_of(map: u8) -> Class
     ensures { result ≡ class_of map }
 {
     if CLASS_WEIGHT <= map {
-        return Class::B;
+        Class::B
+    } else {
+        Class::A
     }
-    Class::A
 }
 
 // The class's part of a map byte.
@@ -153,10 +145,7 @@ fn behind(place: usize, stands: bool, width: usize) -> usize
     ensures value { result ≡ place + cond stands width 0 }
     ensures small { result ≤ place + width }
 {
-    if stands {
-        return place + width;
-    }
-    place
+    if stands { place + width } else { place }
 }
 
 // Where a row's period, deadline, rate and samples stand, and the row's size, counted from the map byte.
@@ -233,8 +222,7 @@ pub fn default_payload(_edition: Edition, row: Row) -> u16
 pub fn default_period(_edition: Edition, row: Row) -> u32
     ensures { result ≡ default_period _edition row }
 {
-    let class = row.class;
-    match class {
+    match row.class {
         Class::A => 15_625,
         Class::B => 31_250,
     }

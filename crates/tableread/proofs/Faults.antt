@@ -5,54 +5,47 @@ use mathlib.Core.List.{List, [], ◌∷◌, ◌++◌}
 use mathlib.Core.Path.{◌≡◌, refl, sym, ◌∙◌, ap}
 use lib.Dec.{leb}
 use lib.ListN.{length}
+use Rattle.std.specs.Prelude.{Result, Ok, Err, IsErrAnd}
+use Rattle.std.proofs.lemmas.Result.{err_from_is_err_and}
 use Rattle.table.specs.declared.Row.{Row}
 use Rattle.table.specs.Checks.{Outcome, accepted, refused, first}
 use Rattle.tablefile.specs.declared.Edition.{Edition}
+use Rattle.tablefile.specs.declared.Misread.{Misread}
 use Rattle.tablefile.specs.Layout.{Field, width_of, usual, bit_of, place_of}
-use Rattle.tablefile.specs.Reading.{map_of, row_from, fine, presence, present, judgement, judged, field_tests, field_checks}
-use Rattle.tablefile.proofs.Laws.{or_else, first_join}
+use Rattle.tablefile.specs.Reading.{map_of, row_from, fine, presence, present, judgement, judged, outcome_of}
+use Rattle.tablefile.proofs.Laws.{first_join}
 
--- a field's tests, with what is known of each
-pub by_tests : (b i o u : Bool) (place : ℕ) {stands inside ok usual : Bool} → b ≡ stands → i ≡ inside → o ≡ ok → u ≡ usual → first (field_tests stands inside ok usual place) ≡ first (field_tests b i o u place)
-by_tests b i o u place eb ei eo eu = rw (eb, ei, eo, eu) refl
+-- ---- a `?` hands a misread on as it is
+pub handed_on : {T : Type 0} (r : Result T Misread) {m : Misread} → IsErrAnd r (λ y. y ≡ m) → r ≡ Err m
+handed_on r e = let p = err_from_is_err_and r e in p.1 ∙ ap Err p.2
 
--- only whether a field is there
-module _ (f : Field) (s : List ℕ) (at : ℕ) {m : ℕ} (em : m ≡ map_of s) {b : Bool} (eb : b ≡ bit_of f m) {place : ℕ} (ep : place ≡ place_of f m) where
-  pub present_told : {inside : Bool} {x : Outcome} → inside ≡ leb (place + width_of f) (length s) → x ≡ first (field_tests b inside true false (at + place)) → x ≡ present f s at
-  present_told {inside} ei e = e ∙ go b inside ∙ rw (← em, ← eb, ← ep, ← ei) refl
-    where
-      go : (b inside : Bool) → first (field_tests b inside true false (at + place)) ≡ presence b inside (at + place)
-      go true true = refl
-      go true false = refl
-      go false inside = refl
+-- ---- checks one behind the other: the first that refuses decides, and one that accepts leaves it to the rest
+module _ {q : Result (Unit {0}) Misread} where
+  pub stop : (r : Result (Unit {0}) Misread) {m : Misread} {x : Outcome} (xs : List Outcome) → IsErrAnd r (λ y. y ≡ m) → q ≡ Err m → outcome_of q ≡ x → outcome_of r ≡ first (x ∷ xs)
+  stop r xs e h c = let here = sym c ∙ ap outcome_of h in ap outcome_of (handed_on r e) ∙ rw here refl
 
--- the tests that the code makes of a field are the field's
-module _ (ed : Edition) (f : Field) (s : List ℕ) (at : ℕ) {m : ℕ} (em : m ≡ map_of s) {b : Bool} (eb : b ≡ bit_of f m) {place : ℕ} (ep : place ≡ place_of f m) where
-  pub field_told : {r : Row} {inside ok default : Bool} {x : Outcome} → r ≡ row_from ed s → inside ≡ leb (place + width_of f) (length s) → ok ≡ fine f r → default ≡ usual ed f r
-      → x ≡ first (field_tests b inside ok default (at + place)) → x ≡ first (field_checks ed f s at)
-  field_told er ei eo eu e = rw (← em, ← er, ← eb, ← ep, ← ei, ← eo, ← eu) e
+  pub pass : {u : Unit {0}} {x o : Outcome} (xs : List Outcome) → q ≡ Ok u → outcome_of q ≡ x → o ≡ first xs → o ≡ first (x ∷ xs)
+  pass xs h c e = let here = sym c ∙ ap outcome_of h in e ∙ rw here refl
 
-  -- only what it says: one that does not stand is not judged, so what is held for it does not matter
-  pub judged_told : {r : Row} {ok default : Bool} {x : Outcome} → (b ≡ true → r ≡ row_from ed s) → ok ≡ fine f r → default ≡ usual ed f r → x ≡ first (field_tests b true ok default (at + place)) → x ≡ judged ed f s at
-  judged_told {r} {ok} {default} er eo eu e = e ∙ by_bit b refl ∙ rw (← em, ← eb, ← ep) refl
-    where
-      go : (ok default : Bool) → first (field_tests true true ok default (at + place)) ≡ judgement true ok default (at + place)
-      go true true = refl
-      go true false = refl
-      go false default = refl
+  pub stop_in : (r : Result (Unit {0}) Misread) {m : Misread} (xs ys : List Outcome) → IsErrAnd r (λ y. y ≡ m) → q ≡ Err m → outcome_of q ≡ first xs → outcome_of r ≡ first (xs ++ ys)
+  stop_in r xs ys e h c = let here = sym c ∙ ap outcome_of h in ap outcome_of (handed_on r e) ∙ sym (first_join xs ys ∙ rw here refl)
 
-      by_bit : (c : Bool) → b ≡ c → first (field_tests c true ok default (at + place)) ≡ judgement c (fine f (row_from ed s)) (usual ed f (row_from ed s)) (at + place)
-      by_bit true h = rw (eo, eu, er h) (go (fine f (row_from ed s)) (usual ed f (row_from ed s)))
-      by_bit false h = refl
+  pub pass_in : {u : Unit {0}} {o : Outcome} (xs ys : List Outcome) → q ≡ Ok u → outcome_of q ≡ first xs → o ≡ first ys → o ≡ first (xs ++ ys)
+  pass_in xs ys h c e = let here = sym c ∙ ap outcome_of h in e ∙ sym (first_join xs ys ∙ rw here refl)
 
--- checks one behind the other: a refusal ends them, and else the others decide
 pub alone : (o : Outcome) → o ≡ first (o ∷ [])
 alone accepted = refl
 alone (refused n p) = refl
 
-pub joined : (xs ys : List Outcome) {x y z : Outcome} → x ≡ first xs → y ≡ first ys → z ≡ first (x ∷ y ∷ []) → z ≡ first (xs ++ ys)
-joined xs ys {x} {y} ex ey e = e ∙ both x y ∙ ap (λ (o : Outcome). or_else o y) ex ∙ ap (or_else (first xs)) ey ∙ sym (first_join xs ys)
-  where
-    both : (x y : Outcome) → first (x ∷ y ∷ []) ≡ or_else x y
-    both accepted y = sym (alone y)
-    both (refused n p) y = refl
+-- ---- what is tested of a field is the field's
+module _ (f : Field) (s : List ℕ) (at : ℕ) {m : ℕ} (em : m ≡ map_of s) {b : Bool} (eb : b ≡ bit_of f m) {place : ℕ} (ep : place ≡ place_of f m) where
+  pub present_told : presence b (leb (place + width_of f) (length s)) (at + place) ≡ present f s at
+  present_told = rw (eb, ep, em) refl
+
+  -- a field that does not stand is not judged, so what is held for it does not matter
+  pub judged_told : (ed : Edition) {r : Row} {ok default : Bool} → (b ≡ true → r ≡ row_from ed s) → ok ≡ fine f r → default ≡ usual ed f r → judgement b ok default (at + place) ≡ judged ed f s at
+  judged_told ed {r} {ok} {default} er eo eu = by_bit b refl ∙ rw (eb, ep, em) refl
+    where
+      by_bit : (c : Bool) → b ≡ c → judgement c ok default (at + place) ≡ judgement c (fine f (row_from ed s)) (usual ed f (row_from ed s)) (at + place)
+      by_bit true h = rw (eo, eu, er h) refl
+      by_bit false h = refl

@@ -1,35 +1,37 @@
 -- A field's value and a row, as the code comes to them.
-use Prim.Native.Nat.{ℕ, ◌+◌, ◌*◌, ◌≤◌}
+use Prim.Native.Nat.{ℕ, ◌+◌, ◌≤◌}
 use mathlib.Core.Bool.{Bool, true, false}
-use mathlib.Core.List.{List}
+use mathlib.Core.List.{List, [], ◌∷◌}
 use mathlib.Core.Path.{◌≡◌, refl, sym, ◌∙◌, ap}
-use native.Mathlib.Nat.{add-zero, add_assoc}
+use native.Mathlib.Nat.{add-zero}
 use native.Mathlib.Omega.{arith}
 use lib.ListN.{get_or}
+use Rattle.std.specs.Int.{w16, w32, from_be_bytes}
 use Rattle.table.specs.declared.Class.{Class}
 use Rattle.table.specs.declared.Pace.{Pace}
 use Rattle.table.specs.declared.Pace.TheVariants as paces
 use Rattle.table.specs.declared.Row.{Row}
 use Rattle.table.specs.Limits.{most_period}
+use Rattle.table.specs.Rows.{no_row}
 use Rattle.table.specs.Wire.{period_of}
 use Rattle.table.specs.Checks.{accepted}
 use Rattle.table.proofs.Laws as law
 use Rattle.tablefile.specs.declared.Edition.{Edition}
-use Rattle.tablefile.specs.Layout.{value_at, Field, Payload, Period, Deadline, Rate, Samples, width_of, default_payload, default_period, default_deadline, bit_of, tagged_of, class_of, place_of}
-use Rattle.tablefile.specs.Reading.{map_of, number_in, said, blank, with_payload, pace_from, with_deadline, paced_from, row_from, row}
+use Rattle.tablefile.specs.Layout.{value_at, Field, Deadline, Rate, Samples, width_of, default_deadline, bit_of, tagged_of, class_of, place_of}
+use Rattle.tablefile.specs.Reading.{map_of, number_in, said, with_payload, pace_from, with_deadline, paced_from, row_from, row}
 use Rattle.tablefile.proofs.Laws.{row_if, pace_in_range}
 
 pub one_byte : (s : List ℕ) (at : ℕ) → value_at 1 s at ≡ get_or s at 0
 unfolding value_at
 one_byte s at = rw (add-zero at) (omega arith)
 
-pub two_bytes : (s : List ℕ) (at : ℕ) → value_at 2 s at ≡ 256 * get_or s at 0 + get_or s (at + 1) 0
+pub two_bytes : (s : List ℕ) (at : ℕ) {a b : ℕ} → a ≡ get_or s at 0 → b ≡ get_or s (at + 1) 0 → from_be_bytes w16 (a ∷ b ∷ []) ≡ value_at 2 s at
 unfolding value_at
-two_bytes s at = rw (add-zero at) (omega arith)
+two_bytes s at ea eb = rw (ea, eb, add-zero at) (omega arith)
 
-pub four_bytes : (s : List ℕ) (at : ℕ) → value_at 4 s at ≡ 65536 * value_at 2 s at + value_at 2 s (at + 2)
+pub four_bytes : (s : List ℕ) (at : ℕ) {a b c d : ℕ} → a ≡ get_or s at 0 → b ≡ get_or s (at + 1) 0 → c ≡ get_or s (at + 2) 0 → d ≡ get_or s (at + 3) 0 → from_be_bytes w32 (a ∷ b ∷ c ∷ d ∷ []) ≡ value_at 4 s at
 unfolding value_at
-four_bytes s at = rw (add-zero at, add-zero (at + 2), add_assoc at 2 1) (omega arith)
+four_bytes s at ea eb ec ed = rw (ea, eb, ec, ed, add-zero at) (omega arith)
 
 module _ (f : Field) (s : List ℕ) {m : ℕ} (is : m ≡ map_of s) {v : ℕ} where
   pub number_here : {p : ℕ} → p ≡ place_of f m → v ≡ value_at (width_of f) s p → v ≡ number_in f s
@@ -43,9 +45,6 @@ module _ (f : Field) (s : List ℕ) {m : ℕ} (is : m ≡ map_of s) {v : ℕ} wh
     unstated h g = let q : bit_of f (map_of s) ≡ false = rw (← is) (sym bit ∙ h) in rw q g
 
 -- a field put into the row before it
-pub payload_put : (ed : Edition) (s : List ℕ) (before : Row) {v : ℕ} → v ≡ said Payload s (default_payload ed before) → ◌≡◌ {A = Row} (record { class = before.class; tagged = before.tagged; payload = v; pace = before.pace; deadline = before.deadline }) (with_payload ed s before)
-payload_put ed s before e = rw e refl
-
 pub deadline_put : (ed : Edition) (s : List ℕ) (before : Row) {v : ℕ} → v ≡ said Deadline s (default_deadline ed before) → ◌≡◌ {A = Row} (record { class = before.class; tagged = before.tagged; payload = before.payload; pace = before.pace; deadline = v }) (with_deadline ed s before)
 deadline_put ed s before e = rw e refl
 
@@ -53,13 +52,10 @@ module _ (ed : Edition) (s : List ℕ) (before : Row) {m : ℕ} (is : m ≡ map_
   pub by_rate : {v n : ℕ} → b ≡ true → v ≡ number_in Rate s → n ≡ number_in Samples s → paces.Rated n v ≡ pace_from ed s before
   by_rate h e g = let q : bit_of Rate (map_of s) ≡ true = rw (← is) (sym bit ∙ h) in rw (e, g, q) refl
 
-  pub by_period : {v : ℕ} → b ≡ false → v ≡ said Period s (default_period ed before) → paces.Period v ≡ pace_from ed s before
-  by_period h e = let q : bit_of Rate (map_of s) ≡ false = rw (← is) (sym bit ∙ h) in rw (q, e) refl
-
-pub paced_built : (ed : Edition) (s : List ℕ) {m : ℕ} {c : Class} {g : Bool} {x : Row} {p : Pace} → m ≡ map_of s → c ≡ class_of m → g ≡ tagged_of ed m → x ≡ with_payload ed s (blank c g) → p ≡ pace_from ed s x
-    → ◌≡◌ {A = Row} (record { class = c; tagged = g; payload = x.payload; pace = p; deadline = 0 }) (paced_from ed s)
+pub paced_built : (ed : Edition) (s : List ℕ) {m : ℕ} {c : Class} {g : Bool} {n x : Row} {p : Pace} → m ≡ map_of s → c ≡ class_of m → g ≡ tagged_of ed m → n ≡ no_row → x ≡ with_payload ed s (record { class = c; tagged = g; payload = n.payload; pace = n.pace; deadline = n.deadline }) → p ≡ pace_from ed s x
+    → ◌≡◌ {A = Row} (record { class = x.class; tagged = x.tagged; payload = x.payload; pace = p; deadline = x.deadline }) (paced_from ed s)
 unfolding paced_from
-paced_built ed s em ec eg ex ep = rw (ep, ex, ec, eg, em) refl
+paced_built ed s em ec eg en ex ep = rw (ep, ex, ec, eg, en, em) refl
 
 pub row_built : (ed : Edition) (s : List ℕ) {x : Row} → x ≡ paced_from ed s → with_deadline ed s x ≡ row_from ed s
 unfolding row_from

@@ -1,1 +1,2 @@
 -- Reading keeps the promise of `tablefile`'s specs/Reading.antt.
+pub mod Results

@@ -29,3 +29,7 @@ module _ (at : ℕ) (l : List ℕ) where
   part_stored vs h e =
       rw (e, part_is, drop_of_length-le (drop at l) {i = length l - at} (rw length-drop (omega arith)), append-nil, drop-drop (length vs) at l)
       (sym (append_assoc (take at l) vs (drop (at + length vs) l)) ∙ sym (sets-eq vs l at h))
+
+  -- vs written over as many bytes from the place on
+  pub part_over : (vs : List ℕ) {k : ℕ} {ys : List ℕ} → k ≡ length vs → ys ≡ vs → at + length vs ≤ length l → take at l ++ (ys ++ drop k (drop at l)) ≡ sets l at vs
+  part_over vs ek e h = rw (e, ek, drop-drop (length vs) at l) (sym (append_assoc (take at l) vs (drop (at + length vs) l)) ∙ sym (sets-eq vs l at h))

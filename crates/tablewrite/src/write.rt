@@ -1,71 +1,40 @@
 // Writing a table file.
-ghost use Rattle.std.specs.Prelude.{◌≡◌, cond, [], ◌++◌, ◌+◌, ◌≤◌, ◌<◌, length, set, drop};
+ghost use Rattle.std.specs.Prelude.{◌≡◌, cond, [], ◌++◌, ◌+◌, ◌*◌, ◌≤◌, length, drop};
 ghost use Rattle.std.proofs.lemmas.List.Edits.{sets};
 ghost use Rattle.table.specs.Limits.{most_rows};
-ghost use Rattle.table.specs.Rows.{rows_of, contents};
 ghost use Rattle.table.specs.Checks.{passing};
-ghost use Rattle.tablefile.specs.Layout as layout;
-ghost use Rattle.tablefile.specs.Layout.{header_size, bytes_of, Period, Rate, rate_of, samples_of, allows};
-ghost use Rattle.tablefile.specs.Writing.{bit_for, map_byte, row_bytes, rows_bytes, header_bytes, file_of, Writes};
+ghost use Rattle.tablefile.specs.Layout.{header_size, Period, Rate, allows};
+ghost use Rattle.tablefile.specs.Writing.{bit_for, map_byte, row_bytes, rows_bytes, header_bytes, Writes};
 
 use table::ranges::ranges;
-use table::{Pace, Row, Table, Verdict};
+use table::{Header, Pace, Row, Table};
 use tablefile::layout::{
     BEST_PLACE, COUNT_PLACE, DEADLINE_WEIGHT, HEADER_SIZE, IDLEA_PLACE, IDLEB_PLACE, PAYLOAD_PLACE,
-    PAYLOAD_WEIGHT, PERIOD_WEIGHT, RATE_WEIGHT, RATE_WIDTH, TAG_WEIGHT, allowed, class_bit,
-    deadline_place, deadline_stands, default_deadline, default_payload, default_period, letters,
-    payload_stands, period_place, period_stands, rate, rate_place, rate_stands, row_size, samples,
+    PAYLOAD_WEIGHT, PERIOD_WEIGHT, RATE_WEIGHT, TAG_WEIGHT, allowed, class_bit, deadline_place,
+    deadline_stands, default_deadline, default_payload, default_period, letters, payload_stands,
+    period_place, period_stands, rate, rate_place, rate_stands, row_size, samples, samples_place,
     stated,
 };
-use tablefile::{Edition, Writing};
+use tablefile::{Edition, Unwritten};
 
-// Every byte of a file is stored here.
-fn put(out: &mut [u8], at: usize, b: u8)
-    requires { at < length out.old }
-    ensures { out.new ≡ set out.old at b }
+// Every byte of a file is stored here: bytes one behind the other, from a place on.
+fn put(out: &mut [u8], at: usize, bytes: &[u8])
+    requires { at + length bytes.now ≤ length out.old }
+    ensures { out.new ≡ sets out.old at bytes.now }
 {
-    out[at] = b;
+    out[at..at + bytes.len()].copy_from_slice(bytes);
 }
 
-fn put16(out: &mut [u8], at: usize, v: u16)
-    requires { at + 2 ≤ length out.old }
-    ensures { out.new ≡ sets out.old at (bytes_of 2 v) }
-{
-    put(out, at, (v / 256) as u8);
-    put(out, at + 1, (v % 256) as u8);
-}
-
-fn put32(out: &mut [u8], at: usize, v: u32)
-    requires { at + 4 ≤ length out.old }
-    ensures { out.new ≡ sets out.old at (bytes_of 4 v) }
-{
-    put16(out, at, (v / 65_536) as u16);
-    put16(out, at + 2, (v % 65_536) as u16);
-}
-
-fn put_letters(edition: Edition, out: &mut [u8])
-    requires { 4 ≤ length out.old }
-    ensures { out.new ≡ sets out.old 0 (layout.letters edition) }
-{
-    let own = letters(edition);
-    let mut i: usize = 0;
-    while i < 4 {
-        put(out, i, own[i]);
-        i += 1;
-    }
-}
-
-fn write_header(edition: Edition, t: Table, out: &mut [u8])
-    requires count_le_most_rows { t.count ≤ most_rows }
+fn write_header(edition: Edition, h: Header, rows: &[Row], out: &mut [u8])
+    requires rows_few { length rows.now ≤ most_rows }
     requires header_size_in_bounds { header_size ≤ length out.old }
-    ensures { out.new ≡ sets out.old 0 (header_bytes edition (contents t)) }
+    ensures { out.new ≡ sets out.old 0 (header_bytes edition (record { header = h; rows = rows.now })) }
 {
-    let h = t.header;
-    put_letters(edition, out);
-    put32(out, IDLEA_PLACE, h.idlea);
-    put32(out, IDLEB_PLACE, h.idleb);
-    put16(out, BEST_PLACE, h.payload);
-    put(out, COUNT_PLACE, t.count as u8);
+    put(out, 0, &letters(edition));
+    put(out, IDLEA_PLACE, &h.idlea.to_be_bytes());
+    put(out, IDLEB_PLACE, &h.idleb.to_be_bytes());
+    put(out, BEST_PLACE, &h.payload.to_be_bytes());
+    put(out, COUNT_PLACE, &[rows.len() as u8]);
 }
 
 // A bit of a map byte: none for a field that is not stated.
@@ -73,10 +42,7 @@ fn bit_for(states: bool, bit: u8) -> u8
     ensures value { result ≡ cond states bit 0 }
     ensures small { result ≤ bit }
 {
-    if states {
-        return bit;
-    }
-    0
+    if states { bit } else { 0 }
 }
 
 // The bit of the pace: a rated row has the rate's, and one with a period that is not the default the period's.
@@ -84,8 +50,7 @@ fn pace_bit(edition: Edition, row: Row) -> u8
     ensures value { result ≡ bit_for edition Period row + bit_for edition Rate row }
     ensures small { result ≤ 8 }
 {
-    let pace = row.pace;
-    match pace {
+    match row.pace {
         Pace::Period(p) => bit_for(p != default_period(edition, row), PERIOD_WEIGHT),
         Pace::Rated(_, _) => RATE_WEIGHT,
     }
@@ -94,47 +59,23 @@ fn pace_bit(edition: Edition, row: Row) -> u8
 fn map_byte(edition: Edition, row: Row) -> u8
     ensures { result ≡ map_byte edition row }
 {
-    let class = row.class;
     let payload = bit_for(row.payload != default_payload(edition, row), PAYLOAD_WEIGHT);
     let deadline = bit_for(
         row.deadline as u64 != default_deadline(edition, row),
         DEADLINE_WEIGHT,
     );
     let tag = bit_for(row.tagged, TAG_WEIGHT);
-    payload + pace_bit(edition, row) + deadline + tag + class_bit(class)
+    payload + pace_bit(edition, row) + deadline + tag + class_bit(row.class)
 }
 
 // A field, if its bit stands.
-fn put_field16(out: &mut [u8], at: usize, stands: bool, value: u16)
-    requires { at + length (cond stands (bytes_of 2 value) []) ≤ length out.old }
-    ensures { out.new ≡ sets out.old at (cond stands (bytes_of 2 value) []) }
+fn put_field(out: &mut [u8], at: usize, stands: bool, bytes: &[u8])
+    requires { at + length (cond stands bytes.now []) ≤ length out.old }
+    ensures { out.new ≡ sets out.old at (cond stands bytes.now []) }
 {
-    if !stands {
-        return;
+    if stands {
+        put(out, at, bytes);
     }
-    put16(out, at, value);
-}
-
-fn put_field32(out: &mut [u8], at: usize, stands: bool, value: u32)
-    requires { at + length (cond stands (bytes_of 4 value) []) ≤ length out.old }
-    ensures { out.new ≡ sets out.old at (cond stands (bytes_of 4 value) []) }
-{
-    if !stands {
-        return;
-    }
-    put32(out, at, value);
-}
-
-// The rate and the samples behind it, if their bit stands.
-fn put_rated(out: &mut [u8], at: usize, stands: bool, pace: Pace)
-    requires { at + length (cond stands (bytes_of 4 (rate_of pace) ++ bytes_of 1 (samples_of pace)) []) ≤ length out.old }
-    ensures { out.new ≡ sets out.old at (cond stands (bytes_of 4 (rate_of pace) ++ bytes_of 1 (samples_of pace)) []) }
-{
-    if !stands {
-        return;
-    }
-    put32(out, at, rate(pace));
-    put(out, at + RATE_WIDTH, samples(pace));
 }
 
 // A row at the start of a buffer, and how many bytes it has. All goes by the map byte.
@@ -143,78 +84,67 @@ fn write_row(edition: Edition, row: Row, out: &mut [u8]) -> usize
     ensures value { result ≡ length (row_bytes edition row) }
     ensures out_after { out.new ≡ row_bytes edition row ++ drop (length (row_bytes edition row)) out.old }
 {
-    let pace = row.pace;
     let map = map_byte(edition, row);
-    put(out, 0, map);
-    put_field16(out, PAYLOAD_PLACE, payload_stands(map), row.payload);
-    put_field32(out, period_place(map), period_stands(map), stated(pace));
-    put_field32(out, deadline_place(map), deadline_stands(map), row.deadline);
-    put_rated(out, rate_place(map), rate_stands(map), pace);
+    let payload = row.payload.to_be_bytes();
+    let period = stated(row.pace).to_be_bytes();
+    let deadline = row.deadline.to_be_bytes();
+    let rate = rate(row.pace).to_be_bytes();
+    let samples = [samples(row.pace)];
+    put(out, 0, &[map]);
+    put_field(out, PAYLOAD_PLACE, payload_stands(map), &payload);
+    put_field(out, period_place(map), period_stands(map), &period);
+    put_field(out, deadline_place(map), deadline_stands(map), &deadline);
+    put_field(out, rate_place(map), rate_stands(map), &rate);
+    put_field(out, samples_place(map), rate_stands(map), &samples);
     row_size(map)
 }
 
 // How many rows the edition allows before the first that it does not.
-fn rows_allowed(edition: Edition, t: Table) -> usize
-    requires { t.count ≤ most_rows }
-    ensures { result ≡ passing (allows edition) (rows_of t) }
+fn rows_allowed(edition: Edition, rows: &[Row]) -> usize
+    ensures { result ≡ passing (allows edition) rows.now }
 {
-    let n = t.count;
-    let mut i: usize = 0;
-    while i < n {
-        if !allowed(edition, t.rows[i]) {
-            return i;
-        }
-        i += 1;
-    }
-    i
+    rows.iter()
+        .take_while(|row| allowed(edition, **row))
+        .count()
 }
 
-// The length of a table's file.
-fn file_size(edition: Edition, t: Table) -> usize
-    requires { t.count ≤ most_rows }
-    ensures { result ≡ length (file_of edition (contents t)) }
+// The length of the rows in a file.
+fn rows_size(edition: Edition, rows: &[Row]) -> usize
+    requires { length rows.now ≤ most_rows }
+    ensures value { result ≡ length (rows_bytes edition rows.now) }
+    ensures small { result ≤ 16 * length rows.now }
 {
-    let count = t.count;
-    let mut size: usize = HEADER_SIZE;
-    let mut i: usize = 0;
-    while i < count {
-        size += row_size(map_byte(edition, t.rows[i]));
-        i += 1;
-    }
-    size
+    rows.iter()
+        .map(|row| row_size(map_byte(edition, *row)))
+        .sum()
 }
 
 // The rows, one after the other into the part behind what is written so far.
-fn write_rows(edition: Edition, t: Table, out: &mut [u8])
-    requires count_le_most_rows { t.count ≤ most_rows }
-    requires t_in_bounds { length (file_of edition (contents t)) ≤ length out.old }
-    ensures { out.new ≡ sets out.old header_size (rows_bytes edition (rows_of t)) }
+fn write_rows(edition: Edition, rows: &[Row], out: &mut [u8])
+    requires { header_size + length (rows_bytes edition rows.now) ≤ length out.old }
+    ensures { out.new ≡ sets out.old header_size (rows_bytes edition rows.now) }
 {
-    let n = t.count;
-    let mut at: usize = HEADER_SIZE;
-    let mut i: usize = 0;
-    while i < n {
-        at += write_row(edition, t.rows[i], &mut out[at..]);
-        i += 1;
+    let mut at = HEADER_SIZE;
+    for row in rows {
+        at += write_row(edition, *row, &mut out[at..]);
     }
 }
 
 // A table's file in an edition into a buffer. A refusal comes before the first byte.
-pub fn write(edition: Edition, t: Table, out: &mut [u8]) -> Writing
+pub fn write(edition: Edition, t: Table, out: &mut [u8]) -> Result<usize, Unwritten>
     ensures { Writes edition t out.old out.new result }
 {
-    if let Verdict::Refused(r) = ranges(t) {
-        return Writing::Refused(r);
+    ranges(t)?;
+    let rows = &t.rows[..t.count];
+    let row = rows_allowed(edition, rows);
+    if row < rows.len() {
+        return Err(Unwritten::Tagged(row));
     }
-    let row = rows_allowed(edition, t);
-    if row < t.count {
-        return Writing::Tagged(row);
-    }
-    let size = file_size(edition, t);
+    let size = HEADER_SIZE + rows_size(edition, rows);
     if out.len() < size {
-        return Writing::TooShort;
+        return Err(Unwritten::TooShort);
     }
-    write_header(edition, t, out);
-    write_rows(edition, t, out);
-    Writing::Written(size)
+    write_header(edition, t.header, rows, out);
+    write_rows(edition, rows, out);
+    Ok(size)
 }

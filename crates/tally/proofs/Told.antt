@@ -7,13 +7,13 @@ use native.Mathlib.Omega.{arith}
 use lib.Dec.{eqb}
 use lib.ListN.{length, get_or}
 use borrow.Author.Tests.{ne_eqb}
+use Rattle.std.specs.declared.option.Option.{Option}
 use Rattle.table.specs.declared.Table.{Table}
 use Rattle.table.specs.Limits.{most_rows}
 use Rattle.table.specs.Rows.{no_row, is_there, rows_of, contents, row_at}
 use Rattle.table.proofs.Laws as table
 use Rattle.figures.specs.declared.Lane.{Lane}
 use Rattle.machine.specs.declared.Frame.{Frame}
-use Rattle.machine.specs.declared.Last.{Last}
 use Rattle.machine.specs.State.{Instant, instants_of}
 use Rattle.machine.specs.Record.{taken_in, up_to, spaced, is_at, newest_of, ends_at}
 use Rattle.machine.proofs.Places.{instant_at_lem}
@@ -35,7 +35,7 @@ by_parts p limit l xs =
     rw (ends_same xs l, and_comm (spaced p xs) (ends_at xs l)) (sym (and_assoc (in_limit (length xs) p limit) (ends_at xs l) (spaced p xs)))
 
 module _ (t : Table) (long : length t.rows ≡ most_rows) (few : t.count ≤ most_rows) (fs : List Frame) where
-  module _ (ofa ofb : Lane) (last : List Last) {newest counts : List ℕ} (n : Notes fs newest counts) where
+  module _ (ofa ofb : Lane) (last : List (Option ℕ)) {newest counts : List ℕ} (n : Notes fs newest counts) where
     used_told : (k : ℕ) → k < t.count → is_there (get_or t.rows k no_row) ≡ true → held_if (contents t) (limits_by ofa ofb t.rows) (instants_of (rows_of t) last) fs k ≡ (counts_test t ofa ofb last newest counts k && spaced_test (contents t) fs k)
     unfolding held_test spaced_test
     used_told k h e =

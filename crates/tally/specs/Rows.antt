@@ -1,14 +1,13 @@
 -- What is asked of the rows' frames in a record: of each by its row, and of each row's together.
-use Rattle.std.specs.Prelude.{ℕ, zero, suc, ◌*◌, Bool, true, false, cond, ◌&&◌, List, ◌≡◌, leb, ltb, eqb, length, get_or}
+use Rattle.std.specs.Prelude.{ℕ, zero, suc, ◌*◌, Bool, true, false, cond, ◌&&◌, List, ◌≡◌, leb, ltb, eqb, length, get_or, Option}
 use Rattle.table.specs.declared.Table.{Table}
-use Rattle.table.specs.Limits.{most_rows}
+use Rattle.table.specs.Limits.{most_rows, class_places}
 use Rattle.table.specs.Wire.{period_of}
 use Rattle.table.specs.Rows.{Contents, rows_of, contents, row_at, in_use}
 use Rattle.machine.specs.declared.Frame.{Frame}
 use Rattle.machine.specs.declared.Wire.{Wire}
 use Rattle.machine.specs.declared.Wire.TheVariants.{Free, Sending}
 use Rattle.machine.specs.declared.Queue.{Queue}
-use Rattle.machine.specs.declared.Last.{Last}
 use Rattle.machine.specs.State.{Instant, never, instants_of}
 use Rattle.machine.specs.Record.{taken_in, up_to, spaced, ends_at}
 use Rattle.spacing.specs.Spread.{in_record, in_places}
@@ -42,7 +41,7 @@ unfoldable pub no_row_frames : Wire → (a b : ℕ) → Bool
 no_row_frames w a b = (eqb a 0 && eqb b 0) && no_row_on w
 
 -- All that is asked of them; false where rows or frames have no place.
-unfoldable pub row_frames_test : Wire → Queue → Queue → Table → List ℕ → List Last → ℕ → Bool
+unfoldable pub row_frames_test : Wire → Queue class_places → Queue class_places → Table → List ℕ → List (Option ℕ) → ℕ → Bool
 row_frames_test w a b t limits last now = in_places t a b && (queues_test (contents t) limits now a b && up_to t.count (held_if (contents t) limits (instants_of (rows_of t) last) (in_record w a b)))
 
 -- What the frames' order says of a test: that it fails, that it holds, or that another decides it.

@@ -1,4 +1,3 @@
 -- Laws that belong to no one function. `Laws` is what the crates above may cite.
-mod Digits
 mod Texts
 pub mod Laws

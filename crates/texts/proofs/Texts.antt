@@ -1,13 +1,13 @@
 -- Text put into a buffer, piece by piece.
 use Prim.Native.Nat.{ℕ, zero, suc, ◌+◌, ◌-◌, ◌/◌, ◌%◌, ◌^◌, ◌≤◌, ◌<◌, zero-le}
 use mathlib.Core.Bool.{Bool, true, false, cond}
-use mathlib.Core.List.{List, [], ◌∷◌, ◌++◌, append_assoc, append-nil}
-use mathlib.Core.Path.{◌≡◌, refl, sym, ◌∙◌, ap}
-use native.Mathlib.Numerals.{add-one}
-use native.Mathlib.Nat.{add-zero, add-suc, pow-le-pow_right, pow-succ', lt_of_not-le, not-suc-le-zero}
+use mathlib.Core.List.{List, [], ◌∷◌, ◌++◌, append_assoc}
+use mathlib.Core.Path.{◌≡◌, refl, sym, ◌∙◌}
+use native.Mathlib.Nat.{pow-le-pow_right, pow-succ', lt_of_not-le, not-suc-le-zero}
 use native.Mathlib.Omega.{arith}
-use lib.ListN.{length, take, drop, set, get_or, length-append, length-take, length-set, take-append-drop}
-use lib.Seq.{take-suc, take-suc-set, take-length, take-append_seam}
+use lib.ListN.{length, take, drop, length-append, length-take}
+use lib.Seq.{drop-drop, take-append_seam}
+use borrow.Rule.Slice.PartMut.{put_mid}
 use lib.Dec.{leb, ltb}
 use borrow.Author.Tests.{lt-ltb, le-ltb, le-leb, lt-leb, leb-true}
 use Rattle.io.specs.Digits.{hex_digit_ascii, last_digits, IsDigitCount}
@@ -15,49 +15,17 @@ use Rattle.texts.specs.declared.text.Answer.{Answer}
 use Rattle.texts.specs.declared.text.Answer.TheVariants.{Refused, Passed}
 use Rattle.texts.specs.Text.{decimal_by, decimal, pair, line_of, line_size, used_by, put_at, Put}
 
--- ---- a text, byte by byte: the first i bytes stand behind what was there, and what stood behind them is as it was
-pub record Putting (at i : ℕ) (text before out : List ℕ) : Type 0 where
-  pub front : take (at + i) out ≡ take at before ++ take i text
-  pub back : drop (at + i) out ≡ drop (at + i) before
-  pub same : length out ≡ length before
-
-pub none_yet : (at : ℕ) (text out : List ℕ) → Putting at 0 text out out
-none_yet at text out = record { front = rw (add-zero, append-nil) refl; back = refl; same = refl }
-
-behind_set : (n v : ℕ) (xs : List ℕ) → drop (suc n) (set xs n v) ≡ drop (suc n) xs
-behind_set n v [] = refl
-behind_set zero v (x ∷ xs) = refl
-behind_set (suc n) v (x ∷ xs) = behind_set n v xs
-
-drop_one : (n : ℕ) (xs : List ℕ) → drop 1 (drop n xs) ≡ drop (suc n) xs
-drop_one zero xs = refl
-drop_one (suc n) [] = refl
-drop_one (suc n) (x ∷ xs) = drop_one n xs
-
-drop_more : (n : ℕ) (xs ys : List ℕ) → drop n xs ≡ drop n ys → drop (suc n) xs ≡ drop (suc n) ys
-drop_more n xs ys e = sym (drop_one n xs) ∙ ap (λ (zs : List ℕ). drop 1 zs) e ∙ drop_one n ys
-
-pub one_more : (at i : ℕ) (text before out : List ℕ) → Putting at i text before out → i < length text → at + i < length out → Putting at (i + 1) text before (set out (at + i) (get_or text i 0))
-one_more at i text before out p h g =
-    record {
-      front = rw (add-one, add-suc, take-suc-set out (at + i) (get_or text i 0) g, take-suc text i 0 h, p.front) (append_assoc (take at before) (take i text) (get_or text i 0 ∷ []));
-      back = rw (add-one, add-suc) (behind_set (at + i) (get_or text i 0) out ∙ drop_more (at + i) out before p.back);
-      same = length-set out (at + i) (get_or text i 0) ∙ p.same;
-    }
-
+-- ---- a text put whole, or not at all
 module _ (at : ℕ) (text before : List ℕ) where
   pub no_room : length before < at + length text → (at ≡ used_by text at before) × (before ≡ put_at text at before)
   unfolding used_by put_at
   no_room h = let e = lt-leb (at + length text) (length before) h in (rw e refl, rw e refl)
 
-  pub all_put : (i : ℕ) (out : List ℕ) → at + length text ≤ length before → Putting at i text before out → i ≡ length text → (at + i ≡ used_by text at before) × (out ≡ put_at text at before)
+  pub all_put : (n : ℕ) {bytes : List ℕ} → at + length text ≤ length before → n ≡ length text → bytes ≡ text → (at + length text ≡ used_by text at before) × (put_mid at n before bytes ≡ put_at text at before)
   unfolding used_by put_at
-  all_put i out room p e =
+  all_put n room e same =
       let z = le-leb (at + length text) (length before) room in
-      let whole : take (at + length text) out ++ drop (at + length text) out ≡ out = take-append-drop (at + length text) out in
-      let front : take (at + length text) out ≡ take at before ++ text = let f = rw e at p.front in f ∙ rw (take-length text) refl in
-      let back : drop (at + length text) out ≡ drop (at + length text) before = rw e at p.back in
-      (rw (z, e) refl, rw z (sym whole ∙ rw (front, back) refl))
+      (rw z refl, rw (z, same, e, drop-drop (length text) at before) (sym (append_assoc (take at before) text (drop (at + length text) before))))
 
 -- The bytes in use stay within the buffer.
 pub within : (at : ℕ) (text before : List ℕ) {next : ℕ} → next ≡ used_by text at before → at ≤ length before → next ≤ length before

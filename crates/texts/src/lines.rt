@@ -38,50 +38,34 @@ pub enum Stepped {
     Other,
 }
 
-fn is_digit(b: u8) -> bool
-    ensures { result ≡ is_digit b }
-{
-    if b < b'0' {
-        return false;
-    }
-    b <= b'9'
-}
-
 // A number with one more digit. One too large for 64 bits becomes the largest there is: every rule refuses both alike.
 fn with_digit(n: u64, d: u64) -> u64
     requires { d ≤ 9 }
     ensures { result ≡ grown n d }
 {
-    if (u64::MAX - d) / 10 < n {
-        return u64::MAX;
-    }
-    10 * n + d
+    n.saturating_mul(10).saturating_add(d)
 }
 
 // The first byte of a line.
 fn letter(b: u8) -> Stepped
     ensures { result ≡ letter_of b }
 {
-    if b == b'o' {
-        return Stepped::More(Line::Letter(Wanted::Row));
+    match b {
+        b'o' => Stepped::More(Line::Letter(Wanted::Row)),
+        b'b' => Stepped::More(Line::Letter(Wanted::Best)),
+        b'a' => Stepped::More(Line::Letter(Wanted::Count)),
+        _ => Stepped::Other,
     }
-    if b == b'b' {
-        return Stepped::More(Line::Letter(Wanted::Best));
-    }
-    if b == b'a' {
-        return Stepped::More(Line::Letter(Wanted::Count));
-    }
-    Stepped::Other
 }
 
 // The byte behind the letter.
 fn space(k: Wanted, b: u8) -> Stepped
     ensures { result ≡ space_of k b }
 {
-    if b == b' ' {
-        return Stepped::More(Line::Space(k));
+    match b {
+        b' ' => Stepped::More(Line::Space(k)),
+        _ => Stepped::Other,
     }
-    Stepped::Other
 }
 
 // A digit of a number.
@@ -89,17 +73,17 @@ fn digit(k: Wanted, n: u64, b: u8) -> Stepped
     requires { is_digit b ≡ true }
     ensures { result ≡ digit_of k n b }
 {
-    Stepped::More(Line::Digits(k, with_digit(n, (b - b'0') as u64)))
+    Stepped::More(Line::Digits(k, with_digit(n, u64::from(b - b'0'))))
 }
 
 // The byte behind a space.
 fn first_digit(k: Wanted, b: u8) -> Stepped
     ensures { result ≡ first_digit_of k b }
 {
-    if is_digit(b) {
-        return digit(k, 0, b);
+    match b {
+        b'0'..=b'9' => digit(k, 0, b),
+        _ => Stepped::Other,
     }
-    Stepped::Other
 }
 
 // A space behind a number: only a row has one.
@@ -108,9 +92,7 @@ fn spaced(k: Wanted, n: u64) -> Stepped
 {
     match k {
         Wanted::Row => Stepped::More(Line::Space(Wanted::Payload(n))),
-        Wanted::Payload(_) => Stepped::Other,
-        Wanted::Best => Stepped::Other,
-        Wanted::Count => Stepped::Other,
+        Wanted::Payload(_) | Wanted::Best | Wanted::Count => Stepped::Other,
     }
 }
 
@@ -130,16 +112,12 @@ fn ended(k: Wanted, n: u64) -> Stepped
 fn in_number(k: Wanted, n: u64, b: u8) -> Stepped
     ensures { result ≡ in_number_of k n b }
 {
-    if is_digit(b) {
-        return digit(k, n, b);
+    match b {
+        b'0'..=b'9' => digit(k, n, b),
+        b' ' => spaced(k, n),
+        b'\n' => ended(k, n),
+        _ => Stepped::Other,
     }
-    if b == b' ' {
-        return spaced(k, n);
-    }
-    if b == b'\n' {
-        return ended(k, n);
-    }
-    Stepped::Other
 }
 
 // What a byte makes of a line. The line's end is a byte like the others.

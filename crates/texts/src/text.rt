@@ -3,6 +3,7 @@ ghost use Rattle.std.specs.Prelude.{◌++◌, ◌≡◌, ◌+◌, ◌≤◌, len
 ghost use Rattle.texts.specs.Text.{decimal, pair, line_of, line_size, used_by, put_at, Put};
 
 // An answer as it is printed: `refused`, number and place; or `0`, byte-times passed and the ended frame's row.
+// (No Result: its two pairs of numbers would lose the names of what they are.)
 #[derive(Clone, Copy)]
 pub enum Answer {
     Refused(u64, u64),
@@ -17,18 +18,12 @@ pub fn put(out: &mut [u8], at: usize, text: &[u8]) -> usize
     ensures value { result ≡ used_by text.now at out.old }
     ensures out_after { out.new ≡ put_at text.now at out.old }
 {
-    if out.len() < at {
+    let end = at.saturating_add(text.len());
+    if out.len() < end {
         return at;
     }
-    if out.len() - at < text.len() {
-        return at;
-    }
-    let mut i = 0;
-    while i < text.len() {
-        out[at + i] = text[i];
-        i += 1;
-    }
-    at + i
+    out[at..end].copy_from_slice(text);
+    end
 }
 
 // A number's digits, put as a text is. A number has at most 20.

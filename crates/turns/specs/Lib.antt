@@ -1,3 +1,2 @@
--- The port of a table file, which calls are joins and leaves, and what is judged of the others.
+-- The port of a table file, and what a call comes to.
 pub mod Turns
-pub mod Steps

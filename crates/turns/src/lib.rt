@@ -4,9 +4,9 @@
 pub mod opened;
 pub mod turn;
 
-// The fresh port of a table file; its code is 0, or the refusal of the file or of its table.
+// What a call that is not refused comes to: an offer or an advance to an effect, a join or a leave to a patch.
 #[derive(Clone, Copy)]
-pub struct FilePort {
-    pub code: u64,
-    pub port: machine::Port,
+pub enum Judged {
+    Effect(machine::Effect),
+    Patch(machine::Patch),
 }

@@ -1,19 +1,17 @@
 // A table file that is opened.
 ghost use Rattle.turns.specs.Turns.{FileOpened};
 
-use crate::FilePort;
-use codes::of_file;
+use machine::Port;
+use offers::opening::open;
+use tablefile::Unopened;
+use tableread::read::read;
 
-// The port of a table file.
-pub fn open_file(file: &[u8]) -> FilePort
+// The fresh port of a table file, or why it is not opened.
+pub fn open_file(file: &[u8]) -> Result<Port, Unopened>
     ensures { FileOpened file.now result }
 {
-    let l = tableread::read::read(file);
-    let t = l.table;
-    let o = offers::opening::open(t);
-    let answer = l.answer;
-    let verdict = o.verdict;
-    let code = of_file(answer, verdict);
-    let port = o.port;
-    FilePort { code, port }
+    let l = read(file)?;
+    let o = open(l.table);
+    o.answer?;
+    Ok(o.port)
 }

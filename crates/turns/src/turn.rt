@@ -1,86 +1,51 @@
 // What a call on a port comes to.
-ghost use Rattle.std.specs.Prelude.{true, false, ◌≡◌};
-ghost use Rattle.machine.specs.declared.Offer.{Offer};
+ghost use Rattle.std.specs.Prelude.{◌≡◌};
 ghost use Rattle.machine.specs.State.{view};
 ghost use Rattle.machine.specs.Record.{sound};
-ghost use Rattle.machine.specs.Calls.{offer_answer};
-ghost use Rattle.machine.specs.Effects.{reply_answer, no_patch, Comes, Patches};
+ghost use Rattle.machine.specs.Calls.{Call, Gives};
+ghost use Rattle.machine.specs.Effects.{passed_answer};
 ghost use Rattle.callbytes.specs.Calls.{call_of};
-ghost use Rattle.turns.specs.Turns.{is_patch, plain_call};
-ghost use Rattle.turns.specs.Steps.{span_of};
+ghost use Rattle.turns.specs.Turns.{Turns, passed_by};
 
+use crate::Judged;
 use callbytes::Asked;
-use machine::{Effect, Offer, Patch, Port, Reply};
-use patches::patches::{judge_join, judge_leave};
-use table::ROWS;
+use effects::records::apply;
+use machine::{Denial, Passed, Port};
+use patches::patches::{carried, judge_join, judge_leave};
 
-// How many byte-times an advance asks for. (An advance judged in two arms of `effect` stands there twice when compiled, and takes more stack.)
-fn span(asked: Asked) -> u64
-    ensures { result ≡ span_of asked }
+// What a call comes to; `whole` is what the record check says (told otherwise, what it comes to is free).
+pub fn turn(p: Port, whole: bool, asked: Asked) -> Result<Judged, Denial>
+    ensures { whole ≡ sound (view p) → Turns p (call_of asked) result }
 {
     match asked {
-        Asked::Offer(_, _) => 0,
-        Asked::OfferBest(_) => 0,
-        Asked::Advance(n) => n,
-        Asked::Join(_, _) => 0,
-        Asked::Leave(_) => 0,
-        Asked::Unreadable => 0,
-    }
-}
-
-// Whether a call is a join or a leave.
-pub fn is_patch(asked: Asked) -> bool
-    ensures { result ≡ is_patch asked }
-{
-    match asked {
-        Asked::Offer(_, _) => false,
-        Asked::OfferBest(_) => false,
-        Asked::Advance(_) => false,
-        Asked::Join(_, _) => true,
-        Asked::Leave(_) => true,
-        Asked::Unreadable => false,
-    }
-}
-
-// What a join or a leave comes to; `whole` is what the record check says (told otherwise, what it comes to is free). Another call is not judged: it comes to nothing.
-pub fn patch(p: Port, whole: bool, asked: Asked) -> Patch
-    ensures patches { is_patch asked ≡ true → whole ≡ sound (view p) → Patches p (call_of asked) result }
-    ensures other { is_patch asked ≡ false → result ≡ no_patch Offer.Taken p }
-{
-    match asked {
-        Asked::Join(number, row) => judge_join(p, whole, number, row),
-        Asked::Leave(number) => judge_leave(p, whole, number),
-        _ => {
-            let table = p.table;
-            let bounds = p.bounds;
-            Patch {
-                answer: Offer::Taken,
-                table,
-                bounds,
-                cleared: ROWS,
-            }
+        Asked::Offer(row, payload) => {
+            offers::offers::judge(p, whole, row, payload).map(Judged::Effect)
         }
+        Asked::OfferBest(payload) => {
+            offers::offers::judge_best(p, whole, payload).map(Judged::Effect)
+        }
+        Asked::Advance(n) => advances::advances::judge(p, whole, n).map(Judged::Effect),
+        Asked::Join(number, row) => judge_join(p, whole, number, row).map(Judged::Patch),
+        Asked::Leave(number) => judge_leave(p, whole, number).map(Judged::Patch),
     }
 }
 
-// The answer of a join or a leave, as a call's.
-pub fn reply_of(o: Offer) -> Reply
-    ensures { reply_answer result ≡ offer_answer o }
+// What a call has passed: byte-times, where it is an advance.
+pub fn passed(t: Judged) -> Option<Passed>
+    ensures { result ≡ passed_by t }
 {
-    match o {
-        Offer::Taken => Reply::Taken,
-        Offer::Refused(d) => Reply::Refused(d),
+    match t {
+        Judged::Effect(e) => e.passed,
+        Judged::Patch(_) => None,
     }
 }
 
-// What another call comes to; `whole` is what the record check says (told otherwise, what it gives is free). Asked for a join or a leave it judges an advance by 0.
-pub fn effect(p: Port, whole: bool, asked: Asked) -> Effect
-    ensures { whole ≡ sound (view p) → Comes p (plain_call asked) result }
+// What a call has come to, carried out on a lent record.
+pub fn carry(p: &mut Port, j: Judged)
+    ensures { (c : Call) → Turns p.old c (Ok j) → Gives p.old c (passed_answer (passed_by j)) p.new }
 {
-    let n = span(asked);
-    match asked {
-        Asked::Offer(row, payload) => offers::offers::judge(p, whole, row, payload),
-        Asked::OfferBest(payload) => offers::offers::judge_best(p, whole, payload),
-        _ => advances::advances::judge(p, whole, n),
+    match j {
+        Judged::Effect(e) => apply(p, e),
+        Judged::Patch(x) => *p = carried(*p, x),
     }
 }

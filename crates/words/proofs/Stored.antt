@@ -1,12 +1,14 @@
 -- Words stored one behind the other.
-use Prim.Native.Nat.{ℕ, suc, ◌+◌, ◌*◌, ◌≤◌}
+use Prim.Native.Nat.{ℕ, suc, ◌+◌, ◌*◌, ◌≤◌, ◌<◌}
 use mathlib.Core.List.{List, [], ◌∷◌, ◌++◌, append_assoc}
-use mathlib.Core.Path.{◌≡◌, refl, sym, ◌∙◌}
+use mathlib.Core.Path.{◌≡◌, refl, sym, ◌∙◌, ap}
+use native.Mathlib.Numerals.{add-one}
 use native.Mathlib.Nat.{add-zero, zero-add, add-suc, suc-add, mul-add}
 use native.Mathlib.Omega.{arith}
-use lib.ListN.{length, drop, length-append}
-use lib.Seq.{sets, sets-eq, length-sets}
-use Rattle.words.specs.Words.{flat, word_bytes, stored}
+use lib.ListN.{length, get_or, take, drop, length-append}
+use lib.Seq.{sets, sets-eq, length-sets, take-suc, length-take-le}
+use Rattle.words.specs.Words.{flat, word_bytes, stored, put}
+use Rattle.words.proofs.Fitting.{put_fits}
 
 pub flat_append : {A : Type 0} (f : A → List ℕ) (xs ys : List A) → flat f (xs ++ ys) ≡ flat f xs ++ flat f ys
 unfolding flat
@@ -56,6 +58,14 @@ stored_front s ws h =
 
 pub more : (s : List ℕ) (k : ℕ) (a b : List ℕ) {l t : List ℕ} {j : ℕ} → l ≡ stored s k a → j ≡ k + length a → t ≡ stored l j b → t ≡ stored s k (a ++ b)
 more s k a b el ej et = et ∙ stored_next s k a b el ej
+
+-- the word of number i, put behind those before it
+pub put_next : (s : List ℕ) (k i : ℕ) (ws : List ℕ) {l t : List ℕ} → 8 * (k + length ws) ≤ length s → i < length ws → l ≡ stored s k (take i ws) → t ≡ put l (k + i) (get_or ws i 0) → t ≡ stored s k (take (i + 1) ws)
+put_next s k i ws {l} room h e g =
+    let same : length l ≡ length s = ap length e ∙ stored_length s k (take i ws) in
+    let n : length (take i ws) ≡ i = length-take-le i ws (omega arith) in
+    let f = put_fits l (k + i) (get_or ws i 0) (omega (arith, same)) g in
+    rw (add-one, take-suc ws i 0 h) (more s k (take i ws) (get_or ws i 0 ∷ []) e (rw n refl) f)
 
 -- words stored one by one
 module _ (s : List ℕ) (k : ℕ) where

@@ -33,15 +33,15 @@ in_time : (c : Else-n-p) → c.args.p.clock + c.args.n ≤ last_clock
 in_time c = omega arith
 
 pub returns-then-not-whole : goal.returns-then-not-whole
-returns-then-not-whole c w = advance_refused _ _ Broken (advance_broken _ _ (sym w ∙ c.if-not-whole.true)) c.refused.ensures
+returns-then-not-whole c w = advance_refused _ _ Broken (advance_broken _ _ (sym w ∙ c.if-not-whole.true))
 
 pub returns-then-n-gt-MOST_STEPS : goal.returns-then-n-gt-MOST_STEPS
-returns-then-n-gt-MOST_STEPS c w = advance_refused _ _ TooManySteps (too_many_steps _ _ (sound_here (goal.at.returns-then-n-gt-MOST_STEPS c).Else-not-whole w) (omega (arith, c.if-n-gt-MOST_STEPS.true))) c.refused-then-n-gt-MOST_STEPS.ensures
+returns-then-n-gt-MOST_STEPS c w = advance_refused _ _ TooManySteps (too_many_steps _ _ (sound_here (goal.at.returns-then-n-gt-MOST_STEPS c).Else-not-whole w) (omega (arith, c.if-n-gt-MOST_STEPS.true)))
 
 pub returns-then-n-p : goal.returns-then-n-p
 returns-then-n-p c w =
     let past : last_clock < c.args.p.clock + c.args.n = omega arith in
-    advance_refused _ _ PastLastClock (past_last_clock _ _ (sound_here (goal.at.returns-then-n-p c).Else-not-whole w) (omega (arith, c.if-n-gt-MOST_STEPS.false)) (rw clock_of_lem past)) c.refused-then-n-p.ensures
+    advance_refused _ _ PastLastClock (past_last_clock _ _ (sound_here (goal.at.returns-then-n-p c).Else-not-whole w) (omega (arith, c.if-n-gt-MOST_STEPS.false)) (rw clock_of_lem past))
 
 pub overflow_add-result : goal.overflow_add-result
 overflow_add-result c =
@@ -53,4 +53,4 @@ returns c w =
     let ok = sound_here (goal.at.returns c).Else-not-whole w in
     let few : c.args.n ≤ most_steps = omega (arith, c.if-n-gt-MOST_STEPS.false) in
     let same = same_run (view p) (clauses (view p) ok) c.args.n few c.hot.ensures c.fixed.ensures c.run-ran.ensures in
-    advance_accepted p _ c.run-ran.result ok (advance_passes _ _ ok few (rw clock_of_lem (in_time (goal.at.returns c).Else-n-p))) same (made p c.run-ran.result c.frame_of-f.ensures c.ended-e.ensures c.wire_now-wire.ensures c.left-change.ensures (to_z-of_z {w = w64} (record { sfits = omega arith })) (to_z-of_z {w = w64} (record { sfits = omega arith })))
+    advance_accepted p _ c.run-ran.result ok (advance_passes _ _ ok few (rw clock_of_lem (in_time (goal.at.returns c).Else-n-p))) same (made p c.run-ran.result c.frame_of-f.ensures c.ended.ensures c.wire_now.ensures c.left.ensures (to_z-of_z {w = w64} (record { sfits = omega arith })) (to_z-of_z {w = w64} (record { sfits = omega arith })))

@@ -1,7 +1,7 @@
 -- `advances::numbers::sender` meets its contract, by whether the frame names a row, whether the row has a place, and whether it is there.
 use Prim.Native.Nat.{ℕ, zero, suc, ◌+◌, ◌-◌, ◌≤◌, ◌<◌}
-use mathlib.Core.Bool.{true, false, not}
-use mathlib.Core.Path.{◌≡◌, refl, ◌∙◌, ap}
+use mathlib.Core.Bool.{true, false}
+use mathlib.Core.Path.{◌≡◌, refl, sym, ◌∙◌, ap}
 use native.Mathlib.Omega.{arith}
 use lib.ListN.{length, get_or, take, replicate, length-take}
 use lib.Seq.{get_or-append-add}
@@ -13,7 +13,7 @@ use Rattle.table.proofs.Laws as table
 use Rattle.machine.specs.declared.Frame.{Frame}
 use Rattle.machine.specs.Time.{shaped, unshaped, owner}
 use Rattle.advances.proofs.numbers.sender.Goals as goal
-use Rattle.advances.proofs.numbers.sender.Goals.{After-is_there}
+use Rattle.advances.proofs.numbers.sender.Goals.{else-k-t-via-then-k-t+then-k-lt-ROWS+else-is_there, else-k-t-via-then-k-t+else-k-lt-ROWS, else-k-t-via-else-k-t}
 
 -- a row without a place is one of zeros
 zeros : (n i : ℕ) → get_or (replicate n no_row) i no_row ≡ no_row
@@ -39,24 +39,22 @@ module _ (t : Table) (long : length t.rows ≡ most_rows) where
     unfolding owner
     of_none h = rw h refl
 
--- the row at its place
-at_place : (c : After-is_there) → row_at (contents c.args.t) c.args.f.source ≡ get_or c.args.t.rows c.args.f.source no_row
-at_place c =
-    table.row_in_place c.args.t (table.places c.args.t _ c.well_formed.0) c.args.f.source c.if-t-k.false c.if-k-ge-ROWS.false
-
-pub returns-then-t-k : goal.returns-then-t-k
-returns-then-t-k c =
-    rw (of_none c.args.t (table.places c.args.t _ c.well_formed.0) c.args.f (table.unused (contents c.args.t) c.args.f.source (rw (table.rows_length c.args.t) c.if-t-k.true))) refl
-
-pub returns-then-k-ge-ROWS : goal.returns-then-k-ge-ROWS
-returns-then-k-ge-ROWS c =
+pub returns-then-is_there : goal.returns-then-is_there
+returns-then-is_there c =
     let long = table.places c.args.t _ c.well_formed.0 in
-    rw (of_none c.args.t long c.args.f (table.empty (contents c.args.t) c.args.f.source (rw (no_place c.args.t long c.args.f.source c.if-k-ge-ROWS.true) table.no_row_there))) refl
+    let e = table.row_in_place c.args.t long c.args.f.source c.if-k-t.true c.if-k-lt-ROWS.true in
+    rw (of_row c.args.t long c.args.f c.if-k-t.true e (sym c.is_there.ensures ∙ c.if-is_there.true)) c.class_sender.ensures
 
-pub returns-then-not-is_there : goal.returns-then-not-is_there
-returns-then-not-is_there c =
-    rw (of_none c.args.t (table.places c.args.t _ c.well_formed.0) c.args.f (table.empty (contents c.args.t) c.args.f.source (ap is_there (at_place (goal.at.returns-then-not-is_there c).After-is_there) ∙ table.fails c.is_there.ensures (ap not c.if-not-is_there.true)))) refl
-
-pub returns : goal.returns
-returns c =
-    rw (of_row c.args.t (table.places c.args.t _ c.well_formed.0) c.args.f c.if-t-k.false (at_place (goal.at.returns c).After-is_there) (table.holds c.is_there.ensures (ap not c.if-not-is_there.false))) c.class_sender.ensures
+pub returns-else-k-t : goal.returns-else-k-t
+returns-else-k-t c =
+    let t = c.args.t in
+    let k = c.args.f.source in
+    let long = table.places t _ c.well_formed.0 in
+    elim c.else-k-t.branch [
+      | else-k-t-via-then-k-t+then-k-lt-ROWS+else-is_there w ↦
+          rw (of_none t long c.args.f (table.empty (contents t) k (ap is_there (table.row_in_place t long k w.if-k-t.true w.if-k-lt-ROWS.true) ∙ (sym w.is_there.ensures ∙ w.if-is_there.false)))) refl
+      | else-k-t-via-then-k-t+else-k-lt-ROWS w ↦
+          rw (of_none t long c.args.f (table.empty (contents t) k (rw (no_place t long k w.if-k-lt-ROWS.false) table.no_row_there))) refl
+      | else-k-t-via-else-k-t w ↦
+          rw (of_none t long c.args.f (table.unused (contents t) k (rw (table.rows_length t) w.if-k-t.false))) refl
+    ]

@@ -1,13 +1,12 @@
--- `bytetime::run::steps` meets its contract: when i byte-times have passed the numbers are those of i byte-times.
+-- `bytetime::run::steps` meets its contract: what has run is the run of as many byte-times as have passed.
 use Prim.Native.Nat.{◌+◌, ◌-◌, ◌*◌, ◌≤◌}
-use mathlib.Core.Bool.{false}
 use mathlib.Core.Path.{◌≡◌}
 use Rattle.table.specs.Limits.{D}
 use Rattle.bytetime.specs.Bytes.{reach, run_hot, Near}
 use Rattle.bytetime.proofs.run.steps.Given as goal
 
-abbrev pub invariant-loop-i : goal.invariant-loop-i
-invariant-loop-i l = (run_hot l.i l.initial.hot l.x ≡ record { hot = l.hot; passed = l.i; ended = false }) × (l.i ≤ l.n) × Near (reach + l.i * (D + 1)) l.hot l.x
+abbrev pub invariant-loop-r : goal.invariant-loop-r
+invariant-loop-r l = (l.r ≡ run_hot l.r.passed l.fn.h l.x) × (l.r.passed ≤ l.n) × Near (reach + l.r.passed * (D + 1)) l.r.hot l.x
 
-abbrev pub decreases-loop-i : goal.decreases-loop-i
-decreases-loop-i l = l.n - l.i
+abbrev pub decreases-loop-r : goal.decreases-loop-r
+decreases-loop-r l = l.n - l.r.passed

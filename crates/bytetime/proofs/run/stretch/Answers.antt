@@ -1,81 +1,100 @@
 -- `bytetime::run::stretch` meets its contract: when i byte-times have passed the numbers are those of i byte-times.
-use Prim.Native.Nat.{◌+◌, ◌-◌, ◌≤◌, ◌<◌}
-use mathlib.Core.Bool.{true, false}
-use mathlib.Core.Path.{◌≡◌, refl, sym, ◌∙◌}
+use Prim.Native.Nat.{ℕ, ◌+◌, ◌-◌, ◌≤◌, ◌<◌, ◌^◌}
+use mathlib.Core.Bool.{true, false, ◌&&◌}
+use mathlib.Core.Path.{◌≡◌, refl, sym, ◌∙◌, ap}
 use native.Mathlib.Omega.{arith}
+use lib.Dec.{leb}
+use lib.IntN.{ℤ}
+use lib.Signed.{mag}
 use mir.Syntax.{w64}
 use mir.Val.{to_z, of_z}
-use Rattle.table.specs.Limits.{D, left_at_report}
-use Rattle.bytetime.specs.declared.Fixed.{Fixed}
-use Rattle.bytetime.specs.Bytes.{credit_after, started_hot, run_hot, freed, ran_with}
+use Rattle.std.proofs.Common.{rules}
+use Rattle.table.specs.Limits.{D}
+use Rattle.bytetime.specs.declared.Ran.{Ran}
+use Rattle.bytetime.specs.Bytes.{credit_after, is_a, is_b, is_nobody, run_hot, freed, ran_with, far}
 use Rattle.bytetime.proofs.Signs.{plain, small}
 use Rattle.bytetime.proofs.Turns.{Turn, first_turn, near_a, near_b, free_further, free_again, sends_last, sends_reported, sends_again, stretched}
 use Rattle.bytetime.proofs.run.stretch.Goals as goal
-use Rattle.bytetime.proofs.run.stretch.Goals.{After-credit_after-creditb}
+use Rattle.bytetime.proofs.run.stretch.Goals.{After-credit_after-r-in-loop-i, then-free+else-ready+else-ready-2, else-free+else-r-le1+else-r-eq-LEFT_AT_REPORT}
+
+-- a credit, which the callee reads back from its bits
+read_back : (z : ℤ) → mag z ≤ far → to_z w64 (of_z w64 z) ≡ z
+read_back z h = plain (small (omega arith))
+
+again : (z : ℤ) → mag z < 2 ^ 63 → to_z w64 (of_z w64 (to_z w64 (of_z w64 z))) ≡ to_z w64 (of_z w64 z)
+again z h = let e : to_z w64 (of_z w64 z) ≡ z = plain (small h) in ap (λ (y : ℤ). to_z w64 (of_z w64 y)) e
 
 -- the byte-time of a turn
-module _ (k : After-credit_after-creditb) (x : Fixed) (ea : x.idlea ≡ k.args.x.idlea) (eb : x.idleb ≡ k.args.x.idleb) (stays : started_hot k.args.h x ≡ k.args.h) where
-  found : Turn k.args.h x k.loop-i.i (to_z w64 k.loop-i.credita-bits) (to_z w64 k.loop-i.creditb-bits) k.loop-i.left
-  found = k.loop-i.invariant.1 x ea eb stays
+module _ (k : After-credit_after-r-in-loop-i) where
+  here : Turn k.args.h k.args.x k.loop-i.i k.loop-i.r.hot.credita k.loop-i.r.hot.creditb k.loop-i.r.hot.left
+  here = k.loop-i.invariant.1
 
-  credit_a : to_z w64 (of_z w64 k.credit_after-credita.result) ≡ credit_after k.is_a-a.result k.keeps.result k.args.h.waitsa x.idlea (D - x.idlea) (to_z w64 k.loop-i.credita-bits)
-  credit_a = rw ea (plain (small k.credit_after-credita.type_inv) ∙ k.credit_after-credita.ensures)
+  nobody : k.eq-free.result ≡ is_nobody k.args.h.sender
+  nobody = search rules
 
-  credit_b : to_z w64 (of_z w64 k.credit_after-creditb.result) ≡ credit_after k.is_b-b.result k.keeps-in-loop-i.result k.args.h.waitsb x.idleb (D - x.idleb) (to_z w64 k.loop-i.creditb-bits)
-  credit_b = rw eb (plain (small k.credit_after-creditb.type_inv) ∙ k.credit_after-creditb.ensures)
+  a-sends : k.eq.result ≡ is_a k.args.h.sender
+  a-sends = search rules
 
-  when_free : k.is_nobody-free.result ≡ true → run_hot (k.loop-i.i + 1) k.args.h x ≡ ran_with k.args.h (to_z w64 (of_z w64 k.credit_after-credita.result)) (to_z w64 (of_z w64 k.credit_after-creditb.result)) k.loop-i.left (k.loop-i.i + 1) false
-  when_free e = free_further k.args.h x found k.is_a-a.ensures k.is_b-b.ensures k.keeps.ensures k.keeps-in-loop-i.ensures credit_a credit_b (sym k.is_nobody-free.ensures ∙ e)
+  b-sends : k.eq-2.result ≡ is_b k.args.h.sender
+  b-sends = search rules
 
-  when_last : k.is_nobody-free.result ≡ false → k.loop-i.left ≤ 1 → run_hot (k.loop-i.i + 1) k.args.h x ≡ ran_with (freed k.args.h) (to_z w64 (of_z w64 k.credit_after-credita.result)) (to_z w64 (of_z w64 k.credit_after-creditb.result)) 0 (k.loop-i.i + 1) false
-  when_last e h = sends_last k.args.h x found k.is_a-a.ensures k.is_b-b.ensures k.keeps.ensures k.keeps-in-loop-i.ensures credit_a credit_b (sym k.is_nobody-free.ensures ∙ e) h
+  abbrev ra : ℤ
+  ra = to_z w64 (of_z w64 k.credit_after-r.result)
 
-  when_reported : k.is_nobody-free.result ≡ false → 1 < k.loop-i.left → k.loop-i.left - 1 ≡ left_at_report → run_hot (k.loop-i.i + 1) k.args.h x ≡ ran_with k.args.h (to_z w64 (of_z w64 k.credit_after-credita.result)) (to_z w64 (of_z w64 k.credit_after-creditb.result)) (k.loop-i.left - 1) (k.loop-i.i + 1) true
-  when_reported e h here = sends_reported k.args.h x found k.is_a-a.ensures k.is_b-b.ensures k.keeps.ensures k.keeps-in-loop-i.ensures credit_a credit_b (sym k.is_nobody-free.ensures ∙ e) h here
+  abbrev rb : ℤ
+  rb = to_z w64 (of_z w64 k.credit_after-r-in-loop-i.result)
 
-  when_more : k.is_nobody-free.result ≡ false → 1 < k.loop-i.left → (k.loop-i.left - 1 ≡ left_at_report → ⊥) → Turn k.args.h x (k.loop-i.i + 1) (to_z w64 (of_z w64 k.credit_after-credita.result)) (to_z w64 (of_z w64 k.credit_after-creditb.result)) (k.loop-i.left - 1)
-  when_more e h other = sends_again k.args.h x found k.is_a-a.ensures k.is_b-b.ensures k.keeps.ensures k.keeps-in-loop-i.ensures credit_a credit_b (sym k.is_nobody-free.ensures ∙ e) h other
+  credit_a : ra ≡ credit_after k.eq.result (k.eq.result && leb 2 k.loop-i.r.hot.left) k.args.h.waitsa k.args.x.idlea (D - k.args.x.idlea) k.loop-i.r.hot.credita
+  credit_a =
+      plain (small k.credit_after-r.type_inv) ∙ rw (read_back k.loop-i.r.hot.credita (near_a _ _ here (omega arith) k.requires.near)) at k.credit_after-r.ensures
+
+  credit_b : rb ≡ credit_after k.eq-2.result (k.eq-2.result && leb 2 k.loop-i.r.hot.left) k.args.h.waitsb k.args.x.idleb (D - k.args.x.idleb) k.loop-i.r.hot.creditb
+  credit_b =
+      plain (small k.credit_after-r-in-loop-i.type_inv) ∙ rw (read_back k.loop-i.r.hot.creditb (near_b _ _ here (omega arith) k.requires.near)) at k.credit_after-r-in-loop-i.ensures
+
+  -- what the turn does not write stays
+  as_was : (left : ℕ) → ran_with k.loop-i.r.hot ra rb left (k.loop-i.i + 1) k.loop-i.r.ended ≡ ran_with k.args.h ra rb left (k.loop-i.i + 1) false
+  as_was left = ap (λ (y : Ran). ran_with y.hot ra rb left (k.loop-i.i + 1) y.ended) k.loop-i.invariant.0
+
+  when_free : k.eq-free.result ≡ true → run_hot (k.loop-i.i + 1) k.args.h k.args.x ≡ ran_with k.args.h ra rb k.loop-i.r.hot.left (k.loop-i.i + 1) false
+  when_free e = free_further k.args.h k.args.x here a-sends b-sends credit_a credit_b (sym nobody ∙ e)
 
 pub loop-i-init : goal.loop-i-init
-loop-i-init c =
-    (omega arith, λ x ea eb e. first_turn c.args.h x e (plain (small (omega arith))) (plain (small (omega arith))))
+loop-i-init c = (refl, first_turn c.args.h c.args.x c.requires.x_value refl refl)
 
-pub credit_after-credita-requires-clause-credit_bound : goal.credit_after-credita-requires-clause-credit_bound
-credit_after-credita-requires-clause-credit_bound c =
-    near_a _ _ (c.loop-i.invariant.1 c.args.x refl refl c.requires.x_value) (omega (arith, c.loop-i.invariant.0)) c.requires.near
+pub credit_after-r-requires-clause-credit_bound : goal.credit_after-r-requires-clause-credit_bound
+credit_after-r-requires-clause-credit_bound c =
+    let near : mag c.loop-i.r.hot.credita ≤ far = near_a _ _ c.loop-i.invariant.1 (omega arith) c.requires.near in
+    rw (read_back _ near) near
 
-pub credit_after-creditb-requires-clause-credit_bound : goal.credit_after-creditb-requires-clause-credit_bound
-credit_after-creditb-requires-clause-credit_bound c =
-    near_b _ _ (c.loop-i.invariant.1 c.args.x refl refl c.requires.x_value) (omega (arith, c.loop-i.invariant.0)) c.requires.near
+pub credit_after-r-requires-in-loop-i-clause-credit_bound : goal.credit_after-r-requires-in-loop-i-clause-credit_bound
+credit_after-r-requires-in-loop-i-clause-credit_bound c =
+    let near : mag c.loop-i.r.hot.creditb ≤ far = near_b _ _ c.loop-i.invariant.1 (omega arith) c.requires.near in
+    rw (read_back _ near) near
 
 pub returns-then-ready : goal.returns-then-ready
 returns-then-ready c =
-    let s = c.args in
-    stretched s.h s.x s.n s.h s.h refl (omega arith) (omega arith) c.ran.ensures (when_free (goal.at.returns-then-ready c).After-credit_after-creditb s.x refl refl c.requires.x_value c.if-free.true)
+    let k = (goal.at.returns-then-ready c).After-credit_after-r-in-loop-i in
+    stretched c.args.h c.args.x c.args.n c.args.h (omega arith) (omega arith) (as_was k c.loop-i.r.hot.left) (when_free k c.if-free.true)
 
-pub returns-then-ready-2 : goal.returns-then-ready-2
-returns-then-ready-2 c =
-    let s = c.args in
-    stretched s.h s.x s.n s.h s.h refl (omega arith) (omega arith) c.ran-then-ready-2.ensures (when_free (goal.at.returns-then-ready-2 c).After-credit_after-creditb s.x refl refl c.requires.x_value c.if-free.true)
+pub returns-then-r-le1 : goal.returns-then-r-le1
+returns-then-r-le1 c =
+    let k = (goal.at.returns-then-r-le1 c).After-credit_after-r-in-loop-i in
+    stretched c.args.h c.args.x c.args.n (freed c.args.h) (omega arith) (omega arith)
+    (ap (λ (y : Ran). ran_with (freed y.hot) (ra k) (rb k) 0 (c.loop-i.i + 1) y.ended) c.loop-i.invariant.0)
+    (sends_last c.args.h c.args.x (here k) (a-sends k) (b-sends k) (credit_a k) (credit_b k) (sym (nobody k) ∙ c.if-free.false) c.if-r-le1.true)
 
-pub loop-i-preserved-else-ready-2 : goal.loop-i-preserved-else-ready-2
-loop-i-preserved-else-ready-2 c =
-    (omega arith, λ x ea eb e. free_again c.args.h x (sym c.is_nobody-free.ensures ∙ c.if-free.true) e (when_free (goal.at.loop-i-preserved-else-ready-2 c).After-credit_after-creditb x ea eb e c.if-free.true) (sym c.ready.ensures ∙ c.if-ready.false) (sym c.ready-then-free.ensures ∙ c.if-ready-2.false))
-
-pub returns-then-left-le1 : goal.returns-then-left-le1
-returns-then-left-le1 c =
-    let s = c.args in
-    stretched s.h s.x s.n c.freed.result (freed s.h) c.freed.ensures (omega arith) (omega arith) c.ran-then-left-le1.ensures (when_last (goal.at.returns-then-left-le1 c).After-credit_after-creditb s.x refl refl c.requires.x_value c.if-free.false c.if-left-le1.true)
-
-pub returns-then-left-eq-LEFT_AT_REPORT : goal.returns-then-left-eq-LEFT_AT_REPORT
-returns-then-left-eq-LEFT_AT_REPORT c =
-    let s = c.args in
-    stretched s.h s.x s.n s.h s.h refl (omega arith) (omega arith) c.ran-then-left-eq-LEFT_AT_REPORT.ensures (when_reported (goal.at.returns-then-left-eq-LEFT_AT_REPORT c).After-credit_after-creditb s.x refl refl c.requires.x_value c.if-free.false c.if-left-le1.false c.if-left-eq-LEFT_AT_REPORT.true)
+pub returns-then-r-eq-LEFT_AT_REPORT : goal.returns-then-r-eq-LEFT_AT_REPORT
+returns-then-r-eq-LEFT_AT_REPORT c =
+    let k = (goal.at.returns-then-r-eq-LEFT_AT_REPORT c).After-credit_after-r-in-loop-i in
+    stretched c.args.h c.args.x c.args.n c.args.h (omega arith) (omega arith)
+    (ap (λ (y : Ran). ran_with y.hot (ra k) (rb k) (c.loop-i.r.hot.left - 1) (c.loop-i.i + 1) true) c.loop-i.invariant.0)
+    (sends_reported c.args.h c.args.x (here k) (a-sends k) (b-sends k) (credit_a k) (credit_b k) (sym (nobody k) ∙ c.if-free.false) c.if-r-le1.false c.if-r-eq-LEFT_AT_REPORT.true)
 
 pub loop-i-preserved : goal.loop-i-preserved
 loop-i-preserved c =
-    (omega arith, λ x ea eb e. when_more (goal.at.loop-i-preserved c).After-credit_after-creditb x ea eb e c.if-free.false c.if-left-le1.false c.if-left-eq-LEFT_AT_REPORT.false)
-
-pub returns : goal.returns
-returns c =
-    stretched c.args.h c.args.x c.args.n c.args.h c.args.h refl (omega arith) (omega arith) c.ran-2.ensures (c.loop-i.invariant.1 c.args.x refl refl c.requires.x_value).ran
+    let k = (goal.at.loop-i-preserved c).After-credit_after-r-in-loop-i in
+    elim c.if-free.branch [
+      | then-free+else-ready+else-ready-2 w ↦ rw w.r-is (as_was k c.loop-i.r.hot.left, free_again c.args.h c.args.x (sym (nobody k) ∙ w.if-free.true) c.requires.x_value (when_free k w.if-free.true) (rw (again c.credit_after-r.result c.credit_after-r.type_inv) at (sym w.ready.ensures ∙ w.if-ready.false)) (rw (again c.credit_after-r-in-loop-i.result c.credit_after-r-in-loop-i.type_inv) at (sym w.ready-else-ready.ensures ∙ w.if-ready-2.false)))
+      | else-free+else-r-le1+else-r-eq-LEFT_AT_REPORT w ↦ rw w.r-is (as_was k (c.loop-i.r.hot.left - 1), sends_again c.args.h c.args.x (here k) (a-sends k) (b-sends k) (credit_a k) (credit_b k) (sym (nobody k) ∙ w.if-free.false) w.if-r-le1.false w.if-r-eq-LEFT_AT_REPORT.false)
+    ]

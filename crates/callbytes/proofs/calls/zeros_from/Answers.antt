@@ -1,20 +1,19 @@
--- `callbytes::calls::zeros_from` meets its contract: what is left to look at says what the whole does.
-use mathlib.Core.Path.{refl, sym, ◌∙◌}
-use native.Mathlib.Omega.{arith}
-use Rattle.callbytes.proofs.Named.{zeros_end, zeros_next, zeros_fail}
+-- `callbytes::calls::zeros_from` meets its contract: the words looked at are those of the definition.
+use Prim.Native.Nat.{◌-◌}
+use mathlib.Core.Path.{◌≡◌, refl, ◌∙◌}
+use lib.Dec.{eqb}
+use Rattle.std.proofs.Common.{rules, tests}
+use Rattle.std.specs.List.{list_all, range_with_len}
+use Rattle.std.proofs.lemmas.Iterator.{YieldsList-from_range}
+use Rattle.std.proofs.lemmas.Iterator.Search.{all_from_yields_List}
+use Rattle.words.specs.Words.{word_at}
+use Rattle.callbytes.proofs.Named.{zeros_all}
 use Rattle.callbytes.proofs.calls.zeros_from.Goals as goal
-
-pub loop-i-init : goal.loop-i-init
-loop-i-init c = refl
-
-pub returns-then-word-ne0 : goal.returns-then-word-ne0
-returns-then-word-ne0 c =
-    sym (c.loop-i.invariant ∙ zeros_fail c.args.s.now c.loop-i.i (omega arith) (λ e. c.if-word-ne0.true (c.word.ensures ∙ e)))
-
-pub loop-i-preserved : goal.loop-i-preserved
-loop-i-preserved c =
-    c.loop-i.invariant ∙ zeros_next c.args.s.now c.loop-i.i (omega arith) (sym c.word.ensures ∙ c.if-word-ne0.false)
 
 pub returns : goal.returns
 returns c =
-    sym (c.loop-i.invariant ∙ zeros_end c.args.s.now c.loop-i.i (omega arith))
+    let s = c.args.s.now in
+    let k = c.args.k in
+    let all : c.all.result ≡ list_all (λ i. eqb (word_at s i) 0) (range_with_len k (9 - k)) =
+    all_from_yields_List (λ i. eqb (word_at s i) 0) _ _ c.all.result c.all.ensures.ran (YieldsList-from_range k 9 (9 - k) refl refl) (λ x b q h. search (rules, tests)) in
+    all ∙ zeros_all s k (9 - k)

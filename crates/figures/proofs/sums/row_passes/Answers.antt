@@ -13,13 +13,5 @@ unfolding row_ok pace_ok
 empty false r e = rw (not_there r e) refl
 empty true r e = rw e refl
 
-there : (gaps : Bool) (r : Row) → is_there r ≡ true → row_ok r ≡ passes_by gaps r
-there false r e = refl
-there true r e = rw e refl
-
-pub returns-then-is_there : goal.returns-then-is_there
-returns-then-is_there c =
-    c.row_ok.ensures ∙ there c.args.gaps c.args.row (sym c.is_there.ensures ∙ c.if-is_there.true)
-
-pub returns : goal.returns
-returns c = empty c.args.gaps c.args.row (sym c.is_there.ensures ∙ c.if-is_there.false)
+pub returns-else-is_there : goal.returns-else-is_there
+returns-else-is_there c = empty c.args.gaps c.args.row (sym c.is_there.ensures ∙ c.if-is_there.false)

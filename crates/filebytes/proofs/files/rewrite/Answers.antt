@@ -1,17 +1,13 @@
 -- `filebytes::files::rewrite` meets its contract: each refusal comes before the first byte.
-use Rattle.filebytes.proofs.Refusals.{below_first, above_last, rewrite_refused, rewritten}
+use Rattle.filebytes.proofs.Refusals.{unnamed, rewrite_misread, rewritten}
 use Rattle.filebytes.proofs.files.rewrite.Goals as goal
 
-pub returns-then-number-lt1 : goal.returns-then-number-lt1
-returns-then-number-lt1 c = below_first _ _ _ c.code.ensures c.if-number-lt1.true
+pub returns-in_default : goal.returns-in_default
+returns-in_default c = unnamed _ _ _ c.in_default.ensures c.code.ensures
 
-pub returns-then-number-gt2 : goal.returns-then-number-gt2
-returns-then-number-gt2 c = above_last _ _ _ c.code-then-number-gt2.ensures c.if-number-lt1.false c.if-number-gt2.true
+pub returns-in-Ok : goal.returns-in-Ok
+returns-in-Ok c =
+    rewritten _ _ c.in-Some.ensures.0 _ c.in-Ok.ensures c.in-Some.ensures.1 c.write.result c.write.ensures c.of_writing.ensures
 
-pub returns-then-c-ne0 : goal.returns-then-c-ne0
-returns-then-c-ne0 c =
-    rewrite_refused _ c.read-l.result c.read-l.ensures _ c.if-number-lt1.false c.if-number-gt2.false _ c.of_reading-c.ensures c.if-c-ne0.true
-
-pub returns : goal.returns
-returns c =
-    rewritten _ c.read-l.result c.read-l.ensures _ c.if-number-lt1.false c.if-number-gt2.false _ c.of_reading-c.ensures c.if-c-ne0.false c.edition_by-edition.ensures c.write-w.result c.write-w.ensures c.of_writing.ensures
+pub returns-in-Err : goal.returns-in-Err
+returns-in-Err c = rewrite_misread _ _ c.in-Some.ensures.0 _ c.in-Err.m c.in-Err.ensures c.of_misread.ensures

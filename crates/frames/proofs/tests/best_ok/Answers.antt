@@ -1,29 +1,25 @@
--- `frames::tests::best_ok` meets its contract: the frames from i on decide.
-use mathlib.Core.Bool.{not}
-use mathlib.Core.Path.{refl, sym, ◌∙◌, ap}
-use native.Mathlib.Omega.{arith}
-use Rattle.machine.proofs.Places.{best_places_lem, too_many}
+-- `frames::tests::best_ok` meets its contract: where the count has its places all frames that wait are tested, and otherwise those without a place fail.
+use Rattle.std.proofs.Common.{◌≡◌, ◌<◌, ◌≤◌, length, take, sym, ◌∙◌, ap, arith, rules}
+use Rattle.std.proofs.lemmas.Iterator.{YieldsList-from_slice}
+use Rattle.std.proofs.lemmas.Iterator.Search.{all_from_yields_List}
+use Rattle.machine.proofs.Places.{waits, too_many}
+use Rattle.machine.specs.Record.{all_of}
 use Rattle.frames.specs.Tests.{best_test}
-use Rattle.frames.proofs.Walk.{from_start, fails_here, passes_here, passes_all}
+use Rattle.frames.proofs.Walk.{all_of_list}
 use Rattle.frames.proofs.Naming.{no_best}
 use Rattle.frames.proofs.tests.best_ok.Goals as goal
 
-pub returns-then-n-gt-BEST_PLACES : goal.returns-then-n-gt-BEST_PLACES
-returns-then-n-gt-BEST_PLACES c =
-    too_many (best_test c.args.most c.args.clock) c.args.q.count c.args.q.frames (no_best _ _) (rw (best_places_lem c.args.q _ c.well_formed.0) c.if-n-gt-BEST_PLACES.true)
+pub returns-in-None : goal.returns-in-None
+returns-in-None c =
+    let more : length c.args.q.frames < c.args.q.count = omega (arith, c.in-None.ensures.lookup) in
+    too_many (best_test c.args.most c.args.clock) c.args.q.count c.args.q.frames (no_best _ _) more
 
-pub loop-i-init : goal.loop-i-init
-loop-i-init c =
-    (refl, omega arith, c.if-n-gt-BEST_PLACES.false, from_start (best_test c.args.most c.args.clock) c.args.q.count c.args.q.frames (rw (best_places_lem c.args.q _ c.well_formed.0) c.if-n-gt-BEST_PLACES.false))
-
-pub returns-then-not-best_frame_ok : goal.returns-then-not-best_frame_ok
-returns-then-not-best_frame_ok c =
-    sym (fails_here (best_test c.args.most c.args.clock) c.args.q.frames c.args.q.count c.loop-i.i c.loop-i-test.true (rw (best_places_lem c.args.q _ c.well_formed.0) c.loop-i.invariant.2) c.best_frame_ok.ensures (ap not c.if-not-best_frame_ok.true)) ∙ c.loop-i.invariant.3
-
-pub loop-i-preserved : goal.loop-i-preserved
-loop-i-preserved c =
-    (refl, omega arith, c.loop-i.invariant.2, sym (passes_here (best_test c.args.most c.args.clock) c.args.q.frames c.args.q.count c.loop-i.i c.loop-i-test.true (rw (best_places_lem c.args.q _ c.well_formed.0) c.loop-i.invariant.2) c.best_frame_ok.ensures (ap not c.if-not-best_frame_ok.false)) ∙ c.loop-i.invariant.3)
-
-pub returns : goal.returns
-returns c =
-    sym (passes_all (best_test c.args.most c.args.clock) c.args.q.frames c.args.q.count c.loop-i.i c.loop-i-test.false) ∙ c.loop-i.invariant.3
+pub returns-in-Some : goal.returns-in-Some
+returns-in-Some c =
+    let ok = best_test c.args.most c.args.clock in
+    let xs = c.in-Some.frames.now in
+    let n = c.args.q.count in
+    let few : n ≤ length c.args.q.frames = c.in-Some.ensures.lookup.0.1 in
+    let e : xs ≡ take n c.args.q.frames = grind (arith, c.in-Some.ensures.lookup) in
+    let r = all_from_yields_List ok _ _ _ c.all.ensures.ran (YieldsList-from_slice xs cc) (λ x b q k. search rules) in
+    r ∙ sym (all_of_list ok xs) ∙ ap (all_of ok) (e ∙ sym (waits n c.args.q.frames few))

@@ -15,7 +15,7 @@ use Rattle.machine.specs.declared.Frame.{Frame}
 use Rattle.frames.proofs.Naming.{no_row_lem, no_place, by_place, row_here}
 use Rattle.frames.specs.Tests.{frame_test, best_test, sending_test}
 use Rattle.frames.proofs.tests.sending_ok.Goals as goal
-use Rattle.frames.proofs.tests.sending_ok.Goals.{then-k-t+then-k-lt-ROWS+else-is_there, then-k-t+else-k-lt-ROWS, else-k-t}
+use Rattle.frames.proofs.tests.sending_ok.Goals.{then-left-lt1-via-then-left-lt1, then-left-lt1-via-else-left-lt1+then-f-left, then-k-t+then-k-lt-ROWS+else-is_there, else-k-t, else-k-t-via-then-k-t+else-k-lt-ROWS, else-k-t-via-else-k-t}
 
 module _ (t : Table) (limits : List ℕ) (now : ℕ) (f : Frame) (left : ℕ) where
   none_left : left < 1 → false ≡ sending_test (contents t) limits now f left
@@ -36,16 +36,17 @@ module _ (t : Table) (limits : List ℕ) (now : ℕ) (f : Frame) (left : ℕ) wh
     of_best u m e = rw (law.best_is (contents t), le-leb 1 left some, le-leb left f.size rest, u, ← m) e
 
 pub returns-then-left-lt1 : goal.returns-then-left-lt1
-returns-then-left-lt1 c = none_left _ _ _ _ _ c.if-left-lt1.true
-
-pub returns-then-f-left : goal.returns-then-f-left
-returns-then-f-left c = too-much-left _ _ _ _ _ c.if-left-lt1.false c.if-f-left.true
+returns-then-left-lt1 c =
+    elim c.then-left-lt1.branch [
+      | then-left-lt1-via-then-left-lt1 w ↦ none_left _ _ _ _ _ w.if-left-lt1.true
+      | then-left-lt1-via-else-left-lt1+then-f-left w ↦ too-much-left _ _ _ _ _ w.if-left-lt1.false w.if-f-left.true
+    ]
 
 pub returns-then-is_there : goal.returns-then-is_there
 returns-then-is_there c =
     let long = table.places c.args.t _ c.well_formed.1.1.0 in
     let u = by_place c.args.t c.args.f.source long c.if-k-t.true c.if-k-lt-ROWS.true c.is_there.ensures ∙ c.if-is_there.true in
-    of_row c.args.t _ c.args.clock c.args.f c.args.left c.if-left-lt1.false c.if-f-left.false long c.if-k-t.true c.if-k-lt-ROWS.true u (row_here _ c.args.t c.args.a c.args.b _ c.args.f long c.if-k-t.true c.if-k-lt-ROWS.true u c.residence.ensures c.row_frame_ok.ensures)
+    of_row c.args.t _ c.args.clock c.args.f c.args.left c.if-left-lt1.false c.if-f-left.false long c.if-k-t.true c.if-k-lt-ROWS.true u (row_here _ c.args.t c.args.lanes.a c.args.lanes.b _ c.args.f long c.if-k-t.true c.if-k-lt-ROWS.true u c.residence.ensures c.row_frame_ok.ensures)
 
 pub returns : goal.returns
 returns c =
@@ -53,7 +54,10 @@ returns c =
     let u : in_use (contents c.args.t) c.args.f.source ≡ false =
     elim c.if-k-t.branch [
       | then-k-t+then-k-lt-ROWS+else-is_there w ↦ by_place c.args.t c.args.f.source long w.if-k-t.true w.if-k-lt-ROWS.true w.is_there.ensures ∙ w.if-is_there.false
-      | then-k-t+else-k-lt-ROWS w ↦ no_place c.args.t c.args.f.source long w.if-k-lt-ROWS.false
-      | else-k-t w ↦ no_row_lem c.args.t c.args.f.source w.if-k-t.false
+      | else-k-t w ↦
+          elim w.else-k-t.branch [
+            | else-k-t-via-then-k-t+else-k-lt-ROWS v ↦ no_place c.args.t c.args.f.source long v.if-k-lt-ROWS.false
+            | else-k-t-via-else-k-t v ↦ no_row_lem c.args.t c.args.f.source v.if-k-t.false
+          ]
     ] in
     of_best c.args.t _ c.args.clock c.args.f c.args.left c.if-left-lt1.false c.if-f-left.false u c.wire_size.ensures.value c.best_frame_ok.ensures

@@ -3,7 +3,7 @@ use Prim.Native.Nat.{ℕ, ◌+◌, ◌-◌, ◌≤◌, ◌<◌}
 use mathlib.Core.Bool.{Bool, true, false}
 use mathlib.Core.Path.{◌≡◌, refl, sym}
 use native.Mathlib.Omega.{arith}
-use lib.Dec.{leb}
+use lib.Dec.{leb, eqb}
 use borrow.Author.Tests.{leb-true, leb-false, le-leb, lt-leb, eq-eqb, ne_eqb}
 use Rattle.table.specs.declared.Row.{Row}
 use Rattle.table.specs.Wire.{period_of}
@@ -19,25 +19,26 @@ distance x y p h = go (leb p (x - y)) refl
     go false e = sym (lt-leb (y + p) x (omega (arith, leb-false p (x - y) e)))
 
 module _ (r : Row) (n y x : ℕ) where
-  first : n ≡ 0 → true ≡ in_turn (period_of r) n y x
+  first : n ≡ 0 → eqb n 0 ≡ in_turn (period_of r) n y x
   unfolding in_turn
   first z = rw (eq-eqb n 0 z) refl
 
   module _ (some : n ≡ 0 → ⊥) where
-    earlier : x < y → false ≡ in_turn (period_of r) n y x
+    earlier : x < y → leb y x ≡ in_turn (period_of r) n y x
     unfolding in_turn
-    earlier h = rw (ne_eqb n 0 some, lt-leb (y + period_of r) x (omega arith)) refl
+    earlier h = rw (ne_eqb n 0 some, lt-leb y x h, lt-leb (y + period_of r) x (omega arith)) refl
 
     later : y ≤ x → {p : ℕ} → p ≡ period_of r → leb p (x - y) ≡ in_turn (period_of r) n y x
     unfolding in_turn
     later h e = rw (ne_eqb n 0 some, ← e) (distance x y _ h)
 
-pub returns-then-count-eq0 : goal.returns-then-count-eq0
-returns-then-count-eq0 c = first _ _ _ _ c.if-count-eq0.true
+pub returns-then-before-eq0 : goal.returns-then-before-eq0
+returns-then-before-eq0 c = first c.args.row c.args.before.count c.args.before.newest c.args.taken c.if-before-eq0.true
 
-pub returns-then-taken-newest : goal.returns-then-taken-newest
-returns-then-taken-newest c = earlier _ _ _ _ c.if-count-eq0.false c.if-taken-newest.true
+pub returns-then-before-taken : goal.returns-then-before-taken
+returns-then-before-taken c =
+    later c.args.row c.args.before.count c.args.before.newest c.args.taken c.if-before-eq0.false c.if-before-taken.true c.period.ensures.value
 
-pub returns : goal.returns
-returns c =
-    later c.args.row c.args.count c.args.newest c.args.taken c.if-count-eq0.false c.if-taken-newest.false c.period.ensures.value
+pub returns-else-before-taken : goal.returns-else-before-taken
+returns-else-before-taken c =
+    earlier c.args.row c.args.before.count c.args.before.newest c.args.taken c.if-before-eq0.false c.if-before-taken.false

@@ -1,117 +1,91 @@
--- `notes::noting::note_all` meets its contract: at i the frames before i are noted, and those from i on decide the test of all.
-use Prim.Native.Nat.{ℕ, ◌≤◌}
-use mathlib.Core.Bool.{true, false, false≢true}
-use mathlib.Core.Path.{◌≡◌, refl, sym, ◌∙◌}
+-- `notes::noting::note_all` meets its contract: the frame on the wire is noted, and behind it those of A's queue, and behind them those of B's.
+use Prim.Native.Nat.{ℕ}
+use mathlib.Core.Bool.{Bool, true, false, ◌&&◌}
+use mathlib.Core.List.{List, ◌++◌, append_assoc}
+use mathlib.Core.Path.{◌≡◌, refl}
 use native.Mathlib.Omega.{arith}
-use lib.ListN.{length}
+use lib.ListN.{take, length-take}
+use Rattle.table.specs.Limits.{class_places}
+use Rattle.table.specs.declared.Class.{Class}
+use Rattle.table.specs.declared.Class.TheVariants.{A, B}
 use Rattle.table.specs.declared.Table.{Table}
-use Rattle.table.specs.Limits.{most_rows}
-use Rattle.table.specs.Rows.{contents, in_use}
-use Rattle.table.proofs.Laws as table
+use Rattle.table.specs.Rows.{contents}
 use Rattle.figures.specs.declared.Lane.{Lane}
+use Rattle.machine.specs.declared.Frame.{Frame}
 use Rattle.machine.specs.declared.Queue.{Queue}
-use Rattle.machine.proofs.Places.{queue_places}
-use Rattle.frames.specs.Tests.{limits_by}
-use Rattle.frames.proofs.Laws.{no_row_lem, no_place, by_place, not_used, row_here}
+use Rattle.machine.specs.declared.Wire.{Wire}
+use Rattle.machine.specs.Record.{all_of, sending}
+use Rattle.frames.specs.Tests.{frame_test, limits_by}
 use Rattle.spacing.specs.Spread.{in_record}
-use Rattle.notes.specs.Notes.{queues_test, Notes, Apart}
-use Rattle.notes.proofs.Turns.{in_both, both_few, rest_ok, from_start, all_passed, Turn, in_a_lem, in_b, fails_here, passes_here, none_yet, one_more, all_noted, few_yet}
-use Rattle.notes.proofs.noting.note_all.Invariants.{ok}
+use Rattle.notes.specs.declared.Noted.{Noted}
+use Rattle.notes.specs.declared.Order.{Order}
+use Rattle.notes.specs.declared.Order.TheVariants.{Broken, Rising, Mixed}
+use Rattle.notes.specs.Notes.{newests, counts, queues_test, Notes, Apart, NotedBy}
+use Rattle.notes.specs.Steps.{Behind, QueueNoted}
+use Rattle.notes.proofs.Notes.{one_apart, is_order, no_order}
+use Rattle.notes.proofs.Turns.{few_first}
 use Rattle.notes.proofs.noting.note_all.Goals as goal
-use Rattle.notes.proofs.noting.note_all.Goals.{Joined-i-first, After-is_there, After-row_frame_ok, After-loop-i, then-i-first, else-i-first, then-not-note, else-not-note}
 
-started : (t : Table) (ofa ofb : Lane) (now : ℕ) (a b : Queue) → rest_ok (ok t ofa ofb now) a b 0 ≡ queues_test (contents t) (limits_by ofa ofb t.rows) now a b
-unfolding queues_test
-started t ofa ofb now a b = from_start (ok t ofa ofb now) a b
+module _ (w : Wire) (a b : Queue class_places) (t : Table) (ofa ofb : Lane) (now : ℕ) (sent first last : List Noted) (on : Notes (sending w) (newests sent) (counts sent)) where
+  abbrev tested : Bool
+  tested = queues_test (contents t) (limits_by ofa ofb t.rows) now a b
 
-long : (c : Joined-i-first) → length c.args.t.rows ≡ most_rows
-long c = table.places c.args.t _ c.well_formed.1.1.1.1.1.0
+  abbrev all_ok : Class → List Frame → Bool
+  all_ok c fs = all_of (frame_test c (contents t) (limits_by ofa ofb t.rows) now) fs
 
--- the frame that is picked is the next one, with its class
-turn : (c : Joined-i-first) → Turn (ok c.args.t c.args.ofa c.args.ofb c.args.clock) c.args.a c.args.b c.loop-i.i c.if-i-first.class c.if-i-first.f
-turn c =
-    let a = c.args.a in
-    let b = c.args.b in
-    let test = ok c.args.t c.args.ofa c.args.ofb c.args.clock in
-    let long-a : a.count ≤ length a.frames = rw (queue_places a _ c.well_formed.1.1.1.0) c.requires.count_le_class_places.0 in
-    let long-b : b.count ≤ length b.frames = rw (queue_places b _ c.well_formed.1.1.1.1.0) c.requires.count_le_class_places.1 in
-    elim c.if-i-first.branch [
-      | then-i-first w ↦ rw (w.class-is, w.f-is) (in_a_lem test a b c.loop-i.i long-a long-b w.if-i-first.true)
-      | else-i-first w ↦ rw (w.class-is, w.f-is) (in_b test a b c.loop-i.i long-a long-b w.if-i-first.false c.loop-i-test.true)
-    ]
+  abbrev of_a : Order → Type 0
+  of_a o = QueueNoted A (take a.count a.frames) t ofa ofb now sent first o
 
--- whether its number is in use
-there : (c : After-is_there) → in_use (contents c.args.t) c.if-i-first.f.source ≡ c.is_there.result
-there c =
-    by_place c.args.t c.if-i-first.f.source (table.places c.args.t _ c.well_formed.1.1.1.1.1.0) c.if-t-k.false c.if-k-ge-ROWS.false c.is_there.ensures
+  abbrev of_b : Order → Type 0
+  of_b o = QueueNoted B (take b.count b.frames) t ofa ofb now first last o
 
--- what its row's test says of it
-row_test_lem : (c : After-row_frame_ok) → c.row_frame_ok.result ≡ ok c.args.t c.args.ofa c.args.ofb c.args.clock c.if-i-first.class c.if-i-first.f
-row_test_lem c =
-    let long = table.places c.args.t _ c.well_formed.1.1.1.1.1.0 in
-    row_here c.if-i-first.class c.args.t c.args.ofa c.args.ofb c.args.clock c.if-i-first.f long c.if-t-k.false c.if-k-ge-ROWS.false (by_place c.args.t c.if-i-first.f.source long c.if-t-k.false c.if-k-ge-ROWS.false c.is_there.ensures ∙ c.if-not-is_there.false) c.residence.ensures c.row_frame_ok.ensures
+  by_parts : {x y : Bool} → all_ok A (take a.count a.frames) ≡ x → all_ok B (take b.count b.frames) ≡ y → tested ≡ (x && y)
+  unfolding queues_test
+  by_parts e f = rw (e, f) refl
 
--- one that may not be there breaks the test of all
-broken : (c : Joined-i-first) → ok c.args.t c.args.ofa c.args.ofb c.args.clock c.if-i-first.class c.if-i-first.f ≡ false → queues_test (contents c.args.t) (limits_by c.args.ofa c.args.ofb c.args.t.rows) c.args.clock c.args.a c.args.b ≡ false
-broken c e = sym c.loop-i.invariant.3 ∙ fails_here (ok c.args.t c.args.ofa c.args.ofb c.args.clock) c.args.a c.args.b (turn c) e
+  first_fails : (o : Order) → o ≡ Broken → of_a o → tested ≡ false
+  first_fails o e n = by_parts (rw e at n) refl
 
-unnamed : (c : Joined-i-first) → in_use (contents c.args.t) c.if-i-first.f.source ≡ false → queues_test (contents c.args.t) (limits_by c.args.ofa c.args.ofb c.args.t.rows) c.args.clock c.args.a c.args.b ≡ false
-unnamed c e = broken c (sym (not_used c.if-i-first.class c.args.t c.args.ofa c.args.ofb c.args.clock c.if-i-first.f e))
+  -- A's frames behind the one on the wire
+  first_noted : (o : Order) → (o ≡ Broken → ⊥) → of_a o → (all_ok A (take a.count a.frames) ≡ true) × Notes (sending w ++ take a.count a.frames) (newests first) (counts first)
+  first_noted Broken d n = absurd (d refl)
+  first_noted Rising d n = (n.0, n.1 (sending w) on)
+  first_noted Mixed d n = (n.0, n.1 (sending w) on)
 
--- after the last turn each frame may be there and is noted
-all_told : (c : After-loop-i) → (queues_test (contents c.args.t) (limits_by c.args.ofa c.args.ofb c.args.t.rows) c.args.clock c.args.a c.args.b ≡ true) × Notes (in_record c.args.w c.args.a c.args.b) c.loop-i.newest c.loop-i.counts × ((c.loop-i.rising ≡ true) → Apart c.args.t (in_record c.args.w c.args.a c.args.b))
-all_told c =
-    let a = c.args.a in
-    let b = c.args.b in
-    let m = all_noted _ _ (in_both a b) c.args.t c.loop-i.i c.loop-i.newest c.loop-i.counts c.loop-i.rising c.loop-i.invariant.4 (omega (arith, both_few a b, c.loop-i-test.false)) c.args.w c.note_wire.ensures in
-    (sym c.loop-i.invariant.3 ∙ all_passed (ok c.args.t c.args.ofa c.args.ofb c.args.clock) a b c.loop-i.i c.loop-i-test.false, m.0, m.1)
+  module _ (o : Order) (d : o ≡ Broken → ⊥) (n : of_a o) where
+    abbrev front : List Frame
+    front = sending w ++ take a.count a.frames
 
-pub loop-i-init : goal.loop-i-init
-loop-i-init c =
-    (refl, refl, omega arith, started c.args.t c.args.ofa c.args.ofb c.args.clock c.args.a c.args.b, none_yet _ _ (in_both c.args.a c.args.b) c.args.t)
+    both : Behind (take b.count b.frames) first last → Notes (in_record w a b) (newests last) (counts last)
+    both m = rw (append_assoc (sending w) (take a.count a.frames) (take b.count b.frames)) at (m front (first_noted o d n).1)
 
-pub returns-then-t-k : goal.returns-then-t-k
-returns-then-t-k c = unnamed (goal.at.returns-then-t-k c).Joined-i-first (no_row_lem c.args.t c.if-i-first.f.source c.if-t-k.true)
+    otherwise : (q : Order) → (q ≡ Rising → ⊥) → of_b q → NotedBy w a b t ofa ofb now (newests last) (counts last) q
+    otherwise Broken e m = by_parts (first_noted o d n).0 m
+    otherwise Rising e m = absurd (e refl)
+    otherwise Mixed e m = (by_parts (first_noted o d n).0 m.0, both m.1)
 
-pub returns-then-k-ge-ROWS : goal.returns-then-k-ge-ROWS
-returns-then-k-ge-ROWS c =
-    let p = (goal.at.returns-then-k-ge-ROWS c).Joined-i-first in
-    unnamed p (no_place c.args.t c.if-i-first.f.source (long p) c.if-k-ge-ROWS.true)
+  rises : (o : Order) → (o ≡ Broken → ⊥) → of_a o → of_b Rising → NotedBy w a b t ofa ofb now (newests last) (counts last) o
+  rises Broken d n m = absurd (d refl)
+  rises Rising d n m =
+      let apart : Apart t ((sending w ++ take a.count a.frames) ++ take b.count b.frames) = m.2 (sending w ++ take a.count a.frames) (n.1 (sending w) on) (n.2 (sending w) on (one_apart t w)) in
+      (by_parts n.0 m.0, both Rising d n m.1, rw (append_assoc (sending w) (take a.count a.frames) (take b.count b.frames)) at apart)
+  rises Mixed d n m = (by_parts n.0 m.0, both Mixed d n m.1)
 
-pub returns-then-not-is_there : goal.returns-then-not-is_there
-returns-then-not-is_there c =
-    let s = goal.at.returns-then-not-is_there c in
-    unnamed s.Joined-i-first (there s.After-is_there ∙ c.if-not-is_there.true)
+pub returns-then-eq : goal.returns-then-eq
+returns-then-eq c =
+    first_fails c.args.p.now.wire c.args.p.now.a c.args.p.now.b c.args.p.now.table c.args.lanes.a c.args.lanes.b c.args.p.now.clock c.note_wire.new.noted c.note_queue-first.new.noted c.note_queue-first.new.noted c.note_wire.ensures c.note_queue-first.result (is_order _ Broken c.eq.ensures c.if-eq.true) c.note_queue-first.ensures
 
-pub returns-then-not-row_frame_ok : goal.returns-then-not-row_frame_ok
-returns-then-not-row_frame_ok c =
-    let s = goal.at.returns-then-not-row_frame_ok c in
-    broken s.Joined-i-first (sym (row_test_lem s.After-row_frame_ok) ∙ c.if-not-row_frame_ok.true)
+pub note_queue-second-requires : goal.note_queue-second-requires
+note_queue-second-requires c =
+    record {
+      few = few_first c.args.p.now.wire c.args.p.now.a c.requires.count_le_class_places.0 (first_noted c.args.p.now.wire c.args.p.now.a c.args.p.now.b c.args.p.now.table c.args.lanes.a c.args.lanes.b c.args.p.now.clock c.note_wire.new.noted c.note_queue-first.new.noted c.note_queue-first.new.noted c.note_wire.ensures c.note_queue-first.result (no_order _ Broken c.eq.ensures c.if-eq.false) c.note_queue-first.ensures).1;
+      length_le_class_places = rw length-take (omega (arith, c.requires.count_le_class_places.1));
+    }
 
-pub note-requires-clause-k_bound : goal.note-requires-clause-k_bound
-note-requires-clause-k_bound c =
-    let few = few_yet _ _ (in_both c.args.a c.args.b) c.args.t c.loop-i.i c.loop-i.newest c.loop-i.counts c.loop-i.rising c.loop-i.invariant.4 c.args.w c.note_wire.ensures c.if-i-first.f.source c.if-k-ge-ROWS.false in
-    omega (arith, few, c.requires.count_le_class_places.0, c.requires.count_le_class_places.1, c.loop-i-test.true)
+pub returns-then-eq-2 : goal.returns-then-eq-2
+returns-then-eq-2 c =
+    rises c.args.p.now.wire c.args.p.now.a c.args.p.now.b c.args.p.now.table c.args.lanes.a c.args.lanes.b c.args.p.now.clock c.note_wire.new.noted c.note_queue-first.new.noted c.note_queue-second.new.noted c.note_wire.ensures c.note_queue-first.result (no_order _ Broken c.eq.ensures c.if-eq.false) c.note_queue-first.ensures (rw (is_order _ Rising c.eq-2.ensures c.if-eq-2.true) at c.note_queue-second.ensures)
 
-pub loop-i-preserved : goal.loop-i-preserved
-loop-i-preserved c =
-    let s = goal.at.loop-i-preserved c in
-    let a = c.args.a in
-    let b = c.args.b in
-    let t = turn s.Joined-i-first in
-    let up : (c.if-not-note.rising ≡ true) → (c.loop-i.rising ≡ true) × (c.note.result ≡ true) =
-    elim c.if-not-note.branch [ then-not-note w ↦ λ q. absurd (false≢true (sym w.rising-is ∙ q)) | else-not-note w ↦ λ q. (sym w.rising-is ∙ q, w.if-not-note.false) ] in (
-      refl,
-      refl,
-      omega arith,
-      passes_here (ok c.args.t c.args.ofa c.args.ofb c.args.clock) a b t (sym (row_test_lem s.After-row_frame_ok) ∙ c.if-not-row_frame_ok.false) ∙ c.loop-i.invariant.3,
-      one_more _ _ (in_both a b) c.args.t c.loop-i.i c.loop-i.newest c.loop-i.counts c.loop-i.rising c.loop-i.invariant.4 t.inside t.here c.if-k-ge-ROWS.false c.note.ensures.newest c.note.ensures.counts c.note.ensures.turn up,
-    )
-
-pub returns-then-rising : goal.returns-then-rising
-returns-then-rising c =
-    let m = all_told (goal.at.returns-then-rising c).After-loop-i in
-    (m.0, m.1, m.2 c.if-rising.true)
-
-pub returns : goal.returns
-returns c = let m = all_told (goal.at.returns c).After-loop-i in (m.0, m.1)
+pub returns-else-eq-2 : goal.returns-else-eq-2
+returns-else-eq-2 c =
+    otherwise c.args.p.now.wire c.args.p.now.a c.args.p.now.b c.args.p.now.table c.args.lanes.a c.args.lanes.b c.args.p.now.clock c.note_wire.new.noted c.note_queue-first.new.noted c.note_queue-second.new.noted c.note_wire.ensures c.note_queue-first.result (no_order _ Broken c.eq.ensures c.if-eq.false) c.note_queue-first.ensures c.note_queue-second.result (no_order _ Rising c.eq-2.ensures c.if-eq-2.false) c.note_queue-second.ensures

@@ -9,9 +9,17 @@ use Rattle.machine.specs.declared.Frame.{Frame}
 use Rattle.machine.specs.declared.Wire.{Wire}
 use Rattle.machine.specs.declared.Wire.TheVariants.{Free, Sending}
 use Rattle.machine.specs.Record.{sending}
-use Rattle.notes.specs.Notes.{Notes}
+use Rattle.std.proofs.lemmas.List.{map-set}
+use Rattle.notes.specs.declared.Noted.{Noted}
+use Rattle.notes.specs.Notes.{newests, counts, Notes}
 use Rattle.notes.proofs.Notes.{noted_here, not_noted}
 use Rattle.notes.proofs.noting.note_wire.Goals as goal
+
+abbrev newest_of : Noted → ℕ
+newest_of n = n.newest
+
+abbrev count_of : Noted → ℕ
+count_of n = n.count
 
 module _ (xs ns : List ℕ) (n : Notes [] xs ns) {w : Wire} where
   on_free_lem : w ≡ Free → Notes (sending w) xs ns
@@ -29,12 +37,12 @@ module _ (xs ns : List ℕ) (n : Notes [] xs ns) {w : Wire} where
 
 pub returns-then-k-lt-ROWS : goal.returns-then-k-lt-ROWS
 returns-then-k-lt-ROWS c =
-    of_row c.args.newest.now c.args.counts.now c.requires c.in-Sending.f c.in-Sending.field-1 c.in-Sending.is c.if-k-lt-ROWS.true
+    rw (map-set newest_of c.args.noted.now c.in-Sending.f.source _, map-set count_of c.args.noted.now c.in-Sending.f.source _) (of_row (newests c.args.noted.now) (counts c.args.noted.now) c.requires c.in-Sending.f c.in-Sending.field-1 c.in-Sending.is c.if-k-lt-ROWS.true)
 
 pub returns-else-k-lt-ROWS : goal.returns-else-k-lt-ROWS
 returns-else-k-lt-ROWS c =
-    of_none c.args.newest.now c.args.counts.now c.requires c.in-Sending.f c.in-Sending.field-1 c.in-Sending.is c.if-k-lt-ROWS.false
+    of_none (newests c.args.noted.now) (counts c.args.noted.now) c.requires c.in-Sending.f c.in-Sending.field-1 c.in-Sending.is c.if-k-lt-ROWS.false
 
 pub returns-in_default : goal.returns-in_default
 returns-in_default c =
-    on_free_lem c.args.newest.now c.args.counts.now c.requires c.in_default.is
+    on_free_lem (newests c.args.noted.now) (counts c.args.noted.now) c.requires c.in_default.is

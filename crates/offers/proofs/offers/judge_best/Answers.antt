@@ -11,13 +11,13 @@ sound_here : {w b : Bool} → w ≡ b → w ≡ true → b ≡ true
 sound_here e h = sym e ∙ h
 
 pub returns-then-not-whole : goal.returns-then-not-whole
-returns-then-not-whole c w = best_refused _ _ Broken (best_broken _ _ (sym w ∙ c.if-not-whole.true)) c.refused.ensures
+returns-then-not-whole c w = best_refused _ _ Broken (best_broken _ _ (sym w ∙ c.if-not-whole.true))
 
 pub returns-then-most-payload : goal.returns-then-most-payload
-returns-then-most-payload c w = best_refused _ _ Payload (best_too_large _ _ (sound_here w c.if-not-whole.false) (rw header_of_lem (omega arith))) c.refused-then-most-payload.ensures
+returns-then-most-payload c w = best_refused _ _ Payload (best_too_large _ _ (sound_here w c.if-not-whole.false) (rw header_of_lem (omega arith)))
 
 pub returns-then-waits-ge-BEST_PLACES : goal.returns-then-waits-ge-BEST_PLACES
-returns-then-waits-ge-BEST_PLACES c w = best_refused _ _ BestEffortFull (best_full _ _ (sound_here w c.if-not-whole.false) (rw header_of_lem (omega arith)) (rw best_count (omega arith))) c.refused-then-waits-ge-BEST_PLACES.ensures
+returns-then-waits-ge-BEST_PLACES c w = best_refused _ _ BestEffortFull (best_full _ _ (sound_here w c.if-not-whole.false) (rw header_of_lem (omega arith)) (rw best_count (omega arith)))
 
 pub returns : goal.returns
-returns c w = best_accepted _ (sound_here w c.if-not-whole.false) _ c.wire_size.result (omega arith) (omega arith) c.wire_size.ensures.value c.effect.ensures
+returns c w = best_accepted _ (sound_here w c.if-not-whole.false) _ c.wire_size.result (omega arith) (omega arith) c.wire_size.ensures.value c.taken.ensures

@@ -1,10 +1,9 @@
 -- `offers::offers::offer` meets its contract: what is judged is carried out.
 use mathlib.Core.Path.{refl}
 use Rattle.machine.specs.State.{view}
-use Rattle.machine.specs.Calls.{offer_check}
-use Rattle.offers.proofs.Judged.{offered}
+use Rattle.machine.specs.Calls.{offer, offer_check}
 use Rattle.offers.proofs.offers.offer.Goals as goal
 
 pub returns : goal.returns
 returns c =
-    offered {p = c.args.p} {q = c.applied.result} (offer_check (view c.args.p) c.args.row c.args.payload) refl (c.judge-e.ensures c.is_sound-whole.ensures) (c.applied.ensures.became, c.applied.ensures.kept) c.answer.ensures
+    c.carried.ensures (offer c.args.row c.args.payload) (offer_check (view c.args.p) c.args.row c.args.payload) refl (c.judge.ensures c.is_sound.ensures)

@@ -1,5 +1,6 @@
 -- `patches::patches::join` meets its contract: the record check says what `judge_join` is told, and its patch is carried out.
+use Rattle.machine.specs.Calls.{join}
 use Rattle.patches.proofs.patches.join.Goals as goal
 
 pub returns : goal.returns
-returns c = rw c.carried-port.ensures (c.judge_join-x.ensures c.is_sound-whole.ensures)
+returns c = c.patched.ensures (join c.args.number c.args.row) (c.judge_join.ensures c.is_sound.ensures)

@@ -1,15 +1,15 @@
 -- `patches::patches::judge_leave` meets its contract: each test that fails is the check that decides, and where the slopes are right the number is emptied.
 use Prim.Native.Nat.{ℕ}
 use mathlib.Core.Bool.{Bool, true}
-use mathlib.Core.Path.{◌≡◌, sym, ◌∙◌, ap}
+use mathlib.Core.Path.{◌≡◌, refl, sym, ◌∙◌, ap}
 use native.Mathlib.Omega.{arith}
 use Rattle.table.specs.declared.Table.{Table}
 use Rattle.table.specs.declared.Refusal.TheVariants.{Slopes}
 use Rattle.table.specs.Rows.{contents, in_use, without_row}
-use Rattle.table.specs.Checks.{Outcome, outcome_of}
+use Rattle.table.specs.Checks.{Outcome}
 use Rattle.table.proofs.Laws.{rows_length, unused, is_used}
 use Rattle.planner.specs.Opening.{standing}
-use Rattle.planner.proofs.Laws.{all_filled}
+use Rattle.planner.proofs.Laws.{all_filled, accepted_with, refused_by}
 use Rattle.machine.specs.declared.Denial.TheVariants.{Broken, NoSuchRow, Busy, Misfit}
 use Rattle.machine.specs.declared.Port.{Port}
 use Rattle.machine.specs.State.{view}
@@ -30,7 +30,7 @@ by_verdict : (p : Port) (k : ℕ) (t : Table) {o v : Outcome} → contents t ≡
 by_verdict p k t e f h = ap (λ x. standing (without_row k x)) (table_of p) ∙ ap standing (sym e) ∙ sym f ∙ h
 
 pub returns-then-not-whole : goal.returns-then-not-whole
-returns-then-not-whole c w = leave_refused _ _ Broken (leave_broken _ _ (sym w ∙ c.if-not-whole.true)) c.refused.ensures
+returns-then-not-whole c w = leave_refused _ _ Broken (leave_broken _ _ (sym w ∙ c.if-not-whole.true))
 
 pub returns-then-t-gt-ROWS : goal.returns-then-t-gt-ROWS
 returns-then-t-gt-ROWS c w = absurd (omega (arith, few_rows _ (sound_here w c.if-not-whole.false), c.if-t-gt-ROWS.true))
@@ -38,28 +38,29 @@ returns-then-t-gt-ROWS c w = absurd (omega (arith, few_rows _ (sound_here w c.if
 pub returns-then-number : goal.returns-then-number
 returns-then-number c w =
     let ok = sound_here w c.if-not-whole.false in
-    leave_refused _ _ NoSuchRow (leave_unused _ _ ok (ap (λ t. in_use t c.args.number) (table_of c.args.p) ∙ unused (contents c.args.p.table) c.args.number (rw (rows_length c.args.p.table) (omega (arith, few_rows c.args.p ok, c.if-number.true))))) c.refused-then-number.ensures
+    leave_refused _ _ NoSuchRow (leave_unused _ _ ok (ap (λ t. in_use t c.args.number) (table_of c.args.p) ∙ unused (contents c.args.p.table) c.args.number (rw (rows_length c.args.p.table) (omega (arith, few_rows c.args.p ok, c.if-number.true)))))
 
 pub returns-then-not-in_use : goal.returns-then-not-in_use
 returns-then-not-in_use c w =
-    leave_refused _ _ NoSuchRow (leave_unused _ _ (sound_here w c.if-not-whole.false) (used c.args.p _ c.in_use.ensures c.if-not-in_use.true)) c.refused-then-not-in_use.ensures
+    leave_refused _ _ NoSuchRow (leave_unused _ _ (sound_here w c.if-not-whole.false) (used c.args.p _ c.in_use.ensures c.if-not-in_use.true))
 
 pub returns-then-not-is_quiet : goal.returns-then-not-is_quiet
 returns-then-not-is_quiet c w =
-    leave_refused _ _ Busy (leave_busy _ _ (sound_here w c.if-not-whole.false) (used c.args.p _ c.in_use.ensures c.if-not-in_use.false) (sym c.is_quiet.ensures ∙ c.if-not-is_quiet.true)) c.refused-then-not-is_quiet.ensures
+    leave_refused _ _ Busy (leave_busy _ _ (sound_here w c.if-not-whole.false) (used c.args.p _ c.in_use.ensures c.if-not-in_use.false) (sym c.is_quiet.ensures ∙ c.if-not-is_quiet.true))
 
 -- the number is below the count
 pub without_row-fewer-requires : goal.without_row-fewer-requires
 without_row-fewer-requires c =
     record { count_le_most_rows = omega arith; k_lt_count = rw (rows_length c.args.p.table) at (is_used (contents c.args.p.table) c.args.number (sym c.in_use.ensures ∙ c.if-not-in_use.false)).below }
 
-pub returns-in-Refused : goal.returns-in-Refused
-returns-in-Refused c w =
-    leave_refused _ _ (Misfit Slopes) (leave_last _ _ (sound_here w c.if-not-whole.false) (used c.args.p _ c.in_use.ensures c.if-not-in_use.false) (sym c.is_quiet.ensures ∙ c.if-not-is_quiet.false) (by_verdict c.args.p _ c.without_row-fewer.result c.without_row-fewer.ensures c.classes-made.ensures.classed.verdict (ap outcome_of c.in-Refused.is))) c.refused-in-Refused.ensures
+pub returns-then-is_err : goal.returns-then-is_err
+returns-then-is_err c w =
+    let r = refused_by true _ c.classes.result (sym c.is_err.ensures.value ∙ c.if-is_err.true) c.classes.ensures.classed in
+    leave_refused _ _ (Misfit Slopes) (leave_last _ _ (sound_here w c.if-not-whole.false) (used c.args.p _ c.in_use.ensures c.if-not-in_use.false) (sym c.is_quiet.ensures ∙ c.if-not-is_quiet.false) (by_verdict c.args.p _ c.without_row-fewer.result c.without_row-fewer.ensures refl r.1))
 
 pub returns : goal.returns
 returns c w =
-    let stands = by_verdict c.args.p _ c.without_row-fewer.result c.without_row-fewer.ensures c.classes-made.ensures.classed.verdict (ap outcome_of c.in_default.is) in
+    let verdict = accepted_with true _ c.classes.result (sym c.is_err.ensures.value ∙ c.if-is_err.false) c.classes.ensures.classed in
+    let stands = by_verdict c.args.p _ c.without_row-fewer.result c.without_row-fewer.ensures refl verdict in
     let passes = leave_passes _ _ (sound_here w c.if-not-whole.false) (used c.args.p _ c.in_use.ensures c.if-not-in_use.false) (sym c.is_quiet.ensures ∙ c.if-not-is_quiet.false) stands in
-    let verdict = sym c.classes-made.ensures.classed.verdict ∙ ap outcome_of c.in_default.is in
-    leave_taken c.args.p (port_places c.args.p _ c.well_formed.0) c.args.number c.without_row-fewer.result _ _ passes c.without_row-fewer.ensures (all_filled true (contents c.without_row-fewer.result) _ c.classes-made.ensures.bounds verdict)
+    leave_taken c.args.p (port_places c.args.p _ c.well_formed.0) c.args.number c.without_row-fewer.result _ _ passes c.without_row-fewer.ensures (all_filled true (contents c.without_row-fewer.result) _ c.classes.ensures.bounds verdict)

@@ -7,6 +7,3 @@ use Rattle.patches.proofs.tables.top.Given as goal
 
 abbrev pub invariant-loop-i : goal.invariant-loop-i
 invariant-loop-i l = (l.i ≤ l.n) × (l.n ≤ 32) × (trimmed (take l.n l.t.rows) ≡ trimmed (take l.i l.t.rows))
-
-abbrev pub decreases-loop-i : goal.decreases-loop-i
-decreases-loop-i l = l.i

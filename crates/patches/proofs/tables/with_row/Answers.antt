@@ -11,10 +11,6 @@ pub loop-i-preserved : goal.loop-i-preserved
 loop-i-preserved c =
     (omega arith, omega arith, omega arith, omega arith, cleared_next c.args.t c.loop-i.u c.loop-i.i c.loop-i.invariant.4 c.loop-i.invariant.0 (omega arith) c.no_row.ensures)
 
-pub returns-then-t-k : goal.returns-then-t-k
-returns-then-t-k c =
-    row_joined c.args.t c.loop-i.u c.loop-i.i c.args.k _ c.args.row (table.places c.args.t _ c.well_formed.0) c.requires.count_le_most_rows c.requires.k_lt_most_rows (omega arith) c.loop-i.invariant.4 (omega arith)
-
-pub returns-else-t-k : goal.returns-else-t-k
-returns-else-t-k c =
-    row_joined c.args.t c.loop-i.u c.loop-i.i c.args.k _ c.args.row (table.places c.args.t _ c.well_formed.0) c.requires.count_le_most_rows c.requires.k_lt_most_rows (omega arith) c.loop-i.invariant.4 (omega (arith, c.loop-i.invariant.4.count))
+pub returns : goal.returns
+returns c =
+    row_joined c.args.t c.loop-i.u c.loop-i.i c.args.k _ c.args.row (table.places c.args.t _ c.well_formed.0) c.requires.count_le_most_rows c.requires.k_lt_most_rows (omega arith) c.loop-i.invariant.4 c.max.ensures

@@ -5,4 +5,4 @@ use Rattle.patches.proofs.tables.without_row.Goals as goal
 
 pub returns : goal.returns
 returns c =
-    row_left c.args.t c.args.k _ _ (table.places c.args.t _ c.well_formed.0) c.requires.count_le_most_rows c.no_row.ensures c.top-n.ensures
+    row_left c.args.t c.args.k _ _ (table.places c.args.t _ c.well_formed.0) c.requires.count_le_most_rows c.no_row.ensures c.top.ensures

@@ -1,42 +1,62 @@
 -- `planner::acceptance::classes` meets its contract: each return is the first check that fails.
-use Prim.Native.Nat.{◌≤◌, ◌<◌}
-use mathlib.Core.Bool.{false, not}
-use mathlib.Core.Path.{◌≡◌, refl, ap}
-use lib.ListN.{length}
-use borrow.Author.Tests.{le-leb, lt-leb}
+use mathlib.Core.Bool.{Bool, true, ◌&&◌}
+use mathlib.Core.Path.{◌≡◌, refl, sym, ◌∙◌}
+use native.Mathlib.Omega.{arith}
+use lib.Dec.{leb}
+use lib.ListN.{length, take, length-take}
+use borrow.Author.Rules.{rules}
+use Rattle.table.specs.declared.Class.{Class}
+use Rattle.table.specs.declared.Class.TheVariants.{A, B}
 use Rattle.table.specs.declared.Table.{Table}
 use Rattle.table.specs.declared.Refusal.TheVariants.{RowCount, Value}
 use Rattle.table.specs.Limits.{most_rows}
-use Rattle.table.specs.Rows.{rows_of}
+use Rattle.table.specs.Rows.{rows_of, contents}
 use Rattle.table.specs.Ranges.{count_ok}
-use Rattle.table.proofs.Laws.{rows_length, count_right_lem, fails, holds}
-use Rattle.planner.proofs.Verdicts.{refused_right, by_count, by_header, by_row, in_range}
+use Rattle.table.proofs.Laws.{places, rows_are, count_is, count_few}
+use Rattle.planner.specs.declared.Totals.{Totals}
+use Rattle.planner.specs.Sums.{members, largest, total, shares}
+use Rattle.planner.specs.Steps.{figures_in, figures_of, AllIn}
+use Rattle.planner.proofs.Verdicts.{refused_right, handed_on, by_count, by_header, by_row, in_range}
 use Rattle.planner.proofs.acceptance.classes.Goals as goal
 
-too_few : (t : Table) → t.count < 1 → count_ok (rows_of t) ≡ false
-unfolding count_ok
-too_few t h = rw (rows_length t, lt-leb _ _ h) refl
+-- the count's test is rule 3's
+told : (t : Table) {b c : Bool} → b ≡ (leb 1 t.count && leb t.count most_rows) → b ≡ c → count_ok (rows_of t) ≡ c
+told t e f = sym (count_is t) ∙ sym e ∙ f
 
-too_many : (t : Table) → 1 ≤ t.count → most_rows < t.count → count_ok (rows_of t) ≡ false
-unfolding count_ok
-too_many t l h = rw (rows_length t, le-leb _ _ l, lt-leb _ _ h) refl
+-- the rows that are summed are the table's
+own_rows : (t : Table) → length t.rows ≡ 32 → count_ok (rows_of t) ≡ true → rows_of t ≡ take t.count t.rows
+own_rows t long e = rows_are t (rw long (count_few t e))
 
-pub returns-then-n-lt1 : goal.returns-then-n-lt1
-returns-then-n-lt1 c =
-    let p = refused_right _ _ _ RowCount (by_count c.args.gaps _ (too_few _ c.if-n-lt1.true)) c.refused.ensures refl in record { classed = p.0; bounds = p.1 }
+own : (gaps : Bool) (t : Table) → length t.rows ≡ 32 → count_ok (rows_of t) ≡ true → {r : Totals} → AllIn gaps (take t.count t.rows) r → AllIn gaps (rows_of t) r
+own gaps t long e s = rw (own_rows t long e) s
 
-pub returns-then-n-gt-ROWS : goal.returns-then-n-gt-ROWS
-returns-then-n-gt-ROWS c =
-    let p = refused_right _ _ _ RowCount (by_count c.args.gaps _ (too_many _ c.if-n-lt1.false c.if-n-gt-ROWS.true)) c.refused-then-n-gt-ROWS.ensures refl in record { classed = p.0; bounds = p.1 }
+figures : (c : Class) (t : Table) → figures_in c (rows_of t) ≡ figures_of c (contents t)
+unfolding members largest total shares
+figures c t = refl
+
+pub summed-requires : goal.summed-requires
+summed-requires c =
+    let h = count_few c.args.t (told c.args.t (search rules) c.if-not-contains.false) in
+    simp length-take (omega arith)
+
+pub returns-then-not-contains : goal.returns-then-not-contains
+returns-then-not-contains c =
+    let p = refused_right _ _ _ RowCount (by_count c.args.gaps _ (told c.args.t (search rules) c.if-not-contains.true)) refl in record { classed = p.0; bounds = p.1 }
 
 pub returns-then-not-header_ok : goal.returns-then-not-header_ok
 returns-then-not-header_ok c =
-    let p = refused_right _ _ _ (Value 32) (by_header c.args.gaps _ (count_right_lem _ c.if-n-lt1.false c.if-n-gt-ROWS.false) (fails c.header_ok.ensures (ap not c.if-not-header_ok.true))) c.refused-then-not-header_ok.ensures refl in record { classed = p.0; bounds = p.1 }
+    let p = refused_right _ _ _ (Value 32) (by_header c.args.gaps _ (told c.args.t (search rules) c.if-not-contains.false) (sym c.header_ok.ensures ∙ c.if-not-header_ok.true)) refl in record { classed = p.0; bounds = p.1 }
 
-pub returns-then-sums-n : goal.returns-then-sums-n
-returns-then-sums-n c =
-    let p = refused_right _ _ _ (Value c.summed-sums.result.passed) (by_row c.args.gaps _ (count_right_lem _ c.if-n-lt1.false c.if-n-gt-ROWS.false) (holds c.header_ok.ensures (ap not c.if-not-header_ok.false)) c.summed-sums.ensures.passed (rw (rows_length c.args.t) c.if-sums-n.true)) c.refused-then-sums-n.ensures refl in record { classed = p.0; bounds = p.1 }
+pub returns-in_err-sums : goal.returns-in_err-sums
+returns-in_err-sums c =
+    let count = told c.args.t (search rules) c.if-not-contains.false in
+    let s = own_rows c.args.t (places c.args.t _ c.well_formed.1.0) count in
+    let sums = c.in_err-sums.ensures in
+    let p = handed_on c.args.gaps (contents c.args.t) _ c.from_residual.result (Value _) c.from_residual.ensures.1 (rw (← s) at sums.1) (by_row c.args.gaps _ count (sym c.header_ok.ensures ∙ c.if-not-header_ok.false) refl (rw (← s) at sums.0)) refl in
+    record { classed = p.0; bounds = p.1 }
 
 pub fair_classes-requires : goal.fair_classes-requires
 fair_classes-requires c =
-    let all : length (rows_of c.args.t) ≤ c.summed-sums.result.passed = rw (rows_length c.args.t) c.if-sums-n.false in record { summed = record { is_a = c.summed-sums.ensures.a all; is_b_lem = c.summed-sums.ensures.b all; small_a = c.summed-sums.ensures.small_a; small_b = c.summed-sums.ensures.small_b }; t_value = in_range c.args.gaps _ (count_right_lem _ c.if-n-lt1.false c.if-n-gt-ROWS.false) (holds c.header_ok.ensures (ap not c.if-not-header_ok.false)) c.summed-sums.ensures.passed all }
+    let count = told c.args.t (search rules) c.if-not-contains.false in
+    let s = own c.args.gaps c.args.t (places c.args.t _ c.well_formed.1.0) count c.in_ok-sums.ensures in
+    record { summed = record { is_a = s.a ∙ figures A c.args.t; is_b_lem = s.b ∙ figures B c.args.t; small_a = s.small_a; small_b = s.small_b }; t_value = in_range c.args.gaps _ count (sym c.header_ok.ensures ∙ c.if-not-header_ok.false) refl s.passed }

@@ -43,22 +43,22 @@ within k t {f} e h = ap (λ (g : Figures). leb g.shares (idle k t)) (sym e) ∙ 
 
 pub returns-then-not-slopes_ok : goal.returns-then-not-slopes_ok
 returns-then-not-slopes_ok c =
-    let p = refused_right _ _ _ Slopes (by_slopes c.args.gaps _ c.requires.t_value (slopes _ c.requires.summed.is_a c.requires.summed.is_b_lem c.slopes_ok.ensures c.if-not-slopes_ok.true)) c.refused.ensures refl in record { classed = p.0; bounds = p.1 }
+    let p = refused_right _ _ _ Slopes (by_slopes c.args.gaps _ c.requires.t_value (slopes _ c.requires.summed.is_a c.requires.summed.is_b_lem c.slopes_ok.ensures c.if-not-slopes_ok.true)) refl in record { classed = p.0; bounds = p.1 }
 
-pub returns-then-h-a : goal.returns-then-h-a
-returns-then-h-a c =
-    let p = refused_right _ _ _ (Shares A) (by_shares_a c.args.gaps _ c.requires.t_value (slopes _ c.requires.summed.is_a c.requires.summed.is_b_lem c.slopes_ok.ensures c.if-not-slopes_ok.false) (above A _ c.requires.summed.is_a c.if-h-a.true)) c.refused-then-h-a.ensures refl in record { classed = p.0; bounds = p.1 }
+pub returns-then-from-a : goal.returns-then-from-a
+returns-then-from-a c =
+    let p = refused_right _ _ _ (Shares A) (by_shares_a c.args.gaps _ c.requires.t_value (slopes _ c.requires.summed.is_a c.requires.summed.is_b_lem c.slopes_ok.ensures c.if-not-slopes_ok.false) (above A _ c.requires.summed.is_a (rw c.from.ensures at c.if-from-a.true))) refl in record { classed = p.0; bounds = p.1 }
 
-pub returns-then-h-b : goal.returns-then-h-b
-returns-then-h-b c =
-    let p = refused_right _ _ _ (Shares B) (by_shares_b c.args.gaps _ c.requires.t_value (slopes _ c.requires.summed.is_a c.requires.summed.is_b_lem c.slopes_ok.ensures c.if-not-slopes_ok.false) (within A _ c.requires.summed.is_a c.if-h-a.false) (above B _ c.requires.summed.is_b_lem c.if-h-b.true)) c.refused-then-h-b.ensures refl in record { classed = p.0; bounds = p.1 }
+pub returns-then-from-b : goal.returns-then-from-b
+returns-then-from-b c =
+    let p = refused_right _ _ _ (Shares B) (by_shares_b c.args.gaps _ c.requires.t_value (slopes _ c.requires.summed.is_a c.requires.summed.is_b_lem c.slopes_ok.ensures c.if-not-slopes_ok.false) (within A _ c.requires.summed.is_a (rw c.from.ensures at c.if-from-a.false)) (above B _ c.requires.summed.is_b_lem (rw c.from-2.ensures at c.if-from-b.true))) refl in record { classed = p.0; bounds = p.1 }
 
-pub lane_a-ofa-requires : goal.lane_a-ofa-requires
-lane_a-ofa-requires c =
+pub lane_a-requires : goal.lane_a-requires
+lane_a-requires c =
     record { idlea_le_most_slope = (ranged_by_lem c.args.gaps _ c.requires.t_value).idlea; small = c.requires.summed.small_a; small_2 = c.requires.summed.small_b }
 
-pub lane_b-ofb-requires : goal.lane_b-ofb-requires
-lane_b-ofb-requires c =
+pub lane_b-requires : goal.lane_b-requires
+lane_b-requires c =
     let r = ranged_by_lem c.args.gaps _ c.requires.t_value in
     record { idlea_le_most_slope = r.idlea; idleb_le_most_slope = r.idleb; small = c.requires.summed.small_a; small_2 = c.requires.summed.small_b }
 
@@ -66,12 +66,12 @@ pub timely_classes-requires : goal.timely_classes-requires
 timely_classes-requires c =
     let u = slope_limits _ (slopes _ c.requires.summed.is_a c.requires.summed.is_b_lem c.slopes_ok.ensures c.if-not-slopes_ok.false) in record {
       lanes = record {
-        is_a = is_a _ c.requires.summed.is_a c.requires.summed.is_b_lem c.lane_a-ofa.ensures.value;
-        is_b_lem = is_b_lem _ c.requires.summed.is_a c.requires.summed.is_b_lem c.lane_b-ofb.ensures.value;
-        modest_a = c.lane_a-ofa.ensures.modest;
-        modest_b = c.lane_b-ofb.ensures.modest;
+        is_a = is_a _ c.requires.summed.is_a c.requires.summed.is_b_lem c.lane_a.ensures.value;
+        is_b_lem = is_b_lem _ c.requires.summed.is_a c.requires.summed.is_b_lem c.lane_b.ensures.value;
+        modest_a = c.lane_a.ensures.modest;
+        modest_b = c.lane_b.ensures.modest;
         used_a = u.0;
         used_b = u.1;
       };
-      passed = record { ranged = c.requires.t_value; slopes = slopes _ c.requires.summed.is_a c.requires.summed.is_b_lem c.slopes_ok.ensures c.if-not-slopes_ok.false; shares_a = within A _ c.requires.summed.is_a c.if-h-a.false; shares_b = within B _ c.requires.summed.is_b_lem c.if-h-b.false };
+      passed = record { ranged = c.requires.t_value; slopes = slopes _ c.requires.summed.is_a c.requires.summed.is_b_lem c.slopes_ok.ensures c.if-not-slopes_ok.false; shares_a = within A _ c.requires.summed.is_a (rw c.from.ensures at c.if-from-a.false); shares_b = within B _ c.requires.summed.is_b_lem (rw c.from-2.ensures at c.if-from-b.false) };
     }

@@ -1,5 +1,5 @@
 -- `record::check::instants_ok` meets its contract: the instants from i on decide.
-use Prim.Native.Nat.{◌-◌, ◌≤◌}
+use Prim.Native.Nat.{◌≤◌}
 use mathlib.Core.Path.{◌≡◌}
 use lib.ListN.{take, drop}
 use Rattle.machine.specs.Record.{none_after}
@@ -8,6 +8,3 @@ use Rattle.record.proofs.check.instants_ok.Given as goal
 
 abbrev pub invariant-loop-i : goal.invariant-loop-i
 invariant-loop-i l = (l.i ≤ l.rows) × (none_after l.clock (drop l.i (instants_by (take l.rows l.made) l.last)) ≡ none_after l.clock (instants_by (take l.rows l.made) l.last))
-
-abbrev pub decreases-loop-i : goal.decreases-loop-i
-decreases-loop-i l = l.rows - l.i

@@ -1,7 +1,7 @@
 -- `record::check::numbers_ok` meets its contract: of an accepted table the planner's figures are the definitions' and not large.
 use Prim.Native.Nat.{◌-◌, ◌*◌, ◌≤◌, ◌<◌}
-use mathlib.Core.Bool.{Bool, true, false, not}
-use mathlib.Core.Path.{◌≡◌, refl, ap}
+use mathlib.Core.Bool.{Bool, true, false, ◌&&◌, and_assoc}
+use mathlib.Core.Path.{◌≡◌, refl, sym, ◌∙◌}
 use lib.IntN.{ℤ}
 use mir.Syntax.{w64}
 use mir.Val.{SFits, to_z, of_z}
@@ -22,7 +22,7 @@ use Rattle.machine.specs.Limits.{last_clock}
 use Rattle.machine.specs.State.{credit, view}
 use Rattle.machine.specs.Record.{between, clock_sound, credit_sound}
 use Rattle.record.specs.Steps.{numbers_test}
-use Rattle.table.proofs.Laws.{fails, holds}
+use Rattle.record.proofs.check.numbers_ok.Goals.{Joined-p-le-LAST_CLOCK, then-p-le-LAST_CLOCK, else-p-le-LAST_CLOCK}
 use Rattle.record.proofs.check.numbers_ok.Goals as goal
 
 -- the figures of a class are not large
@@ -49,38 +49,44 @@ module _ (p : Port) where
       let known : r ≡ between ((D - (lane_of k (contents p.table)).idle) * (lane_of k (contents p.table)).largest) ((lane_of k (contents p.table)).idle * (lane_of k (contents p.table)).blocking) (credit_of k p) = rw e at plain in
       rw (in-view k) known
 
-  past-last : last_clock < p.clock → false ≡ numbers_test (view p)
-  unfolding view numbers_test clock_sound
+  past-last : last_clock < p.clock → false ≡ (clock_sound (view p) && credit_sound A (view p))
+  unfolding view clock_sound
   past-last h = rw (lt-leb p.clock last_clock h) refl
 
-  a-fails : p.clock ≤ last_clock → credit_sound A (view p) ≡ false → false ≡ numbers_test (view p)
-  unfolding view numbers_test clock_sound
-  a-fails h e = rw (le-leb p.clock last_clock h, e) refl
+  on-time : p.clock ≤ last_clock → {r : Bool} → r ≡ credit_sound A (view p) → r ≡ (clock_sound (view p) && credit_sound A (view p))
+  unfolding view clock_sound
+  on-time h e = rw (le-leb p.clock last_clock h) e
 
-  by-b : p.clock ≤ last_clock → credit_sound A (view p) ≡ true → {r : Bool} → r ≡ credit_sound B (view p) → r ≡ numbers_test (view p)
-  unfolding view numbers_test clock_sound
-  by-b h e q = rw (le-leb p.clock last_clock h, e) q
+  by-b : (clock_sound (view p) && credit_sound A (view p)) ≡ true → credit_sound B (view p) ≡ numbers_test (view p)
+  unfolding numbers_test
+  by-b h = sym (rw (← and_assoc (clock_sound (view p)) (credit_sound A (view p)) (credit_sound B (view p)), h) refl)
 
-pub returns-then-p-gt-LAST_CLOCK : goal.returns-then-p-gt-LAST_CLOCK
-returns-then-p-gt-LAST_CLOCK c = past-last c.args.p c.if-p-gt-LAST_CLOCK.true
+  none-by : (clock_sound (view p) && credit_sound A (view p)) ≡ false → false ≡ numbers_test (view p)
+  unfolding numbers_test
+  none-by h = sym (sym (and_assoc (clock_sound (view p)) (credit_sound A (view p)) (credit_sound B (view p))) ∙ rw h refl)
+
+-- the clock, and the credit of A
+told : (c : Joined-p-le-LAST_CLOCK) → c.if-p-le-LAST_CLOCK.value ≡ (clock_sound (view c.args.p.now) && credit_sound A (view c.args.p.now))
+told c =
+    elim c.if-p-le-LAST_CLOCK.branch [
+      | then-p-le-LAST_CLOCK w ↦ w.value-is ∙ on-time c.args.p.now w.if-p-le-LAST_CLOCK.true (is-credit c.args.p.now A (search rules) c.requires.a_value w.credit_ok.ensures)
+      | else-p-le-LAST_CLOCK w ↦ w.value-is ∙ lt-leb c.args.p.now.clock last_clock w.if-p-le-LAST_CLOCK.false ∙ past-last c.args.p.now w.if-p-le-LAST_CLOCK.false
+    ]
 
 pub credit_ok-requires : goal.credit_ok-requires
 credit_ok-requires c =
-    let s = small A (contents c.args.p.table) c.requires.table_value c.requires.a_value in
+    let s = small A (contents c.args.p.now.table) c.requires.table_value c.requires.a_value in
     record { idle_le_most_slope = s.0; largest_le_most_size = s.1.0; blocking_bound = s.1.1 }
 
-pub returns-then-not-credit_ok : goal.returns-then-not-credit_ok
-returns-then-not-credit_ok c =
-    a-fails c.args.p c.if-p-gt-LAST_CLOCK.false
-    (fails (is-credit c.args.p A (search rules) c.requires.a_value c.credit_ok.ensures) (ap not c.if-not-credit_ok.true))
-
-pub credit_ok-requires-2 : goal.credit_ok-requires-2
-credit_ok-requires-2 c =
-    let s = small B (contents c.args.p.table) c.requires.table_value c.requires.b_value in
+pub credit_ok-requires-then-credit_ok : goal.credit_ok-requires-then-credit_ok
+credit_ok-requires-then-credit_ok c =
+    let s = small B (contents c.args.p.now.table) c.requires.table_value c.requires.b_value in
     record { idle_le_most_slope = s.0; largest_le_most_size = s.1.0; blocking_bound = s.1.1 }
 
-pub returns : goal.returns
-returns c =
-    by-b c.args.p c.if-p-gt-LAST_CLOCK.false
-    (holds (is-credit c.args.p A (search rules) c.requires.a_value c.credit_ok.ensures) (ap not c.if-not-credit_ok.false))
-    (is-credit c.args.p B (search rules) c.requires.b_value c.credit_ok-2.ensures)
+pub returns-then-credit_ok : goal.returns-then-credit_ok
+returns-then-credit_ok c =
+    is-credit c.args.p.now B (search rules) c.requires.b_value c.credit_ok-then-credit_ok.ensures ∙ by-b c.args.p.now (sym (told (goal.at.returns-then-credit_ok c).Joined-p-le-LAST_CLOCK) ∙ c.if-credit_ok.true)
+
+pub returns-else-credit_ok : goal.returns-else-credit_ok
+returns-else-credit_ok c =
+    c.if-credit_ok.false ∙ none-by c.args.p.now (sym (told (goal.at.returns-else-credit_ok c).Joined-p-le-LAST_CLOCK) ∙ c.if-credit_ok.false)

@@ -1,10 +1,11 @@
 -- `record::check::others_ok` meets its contract: a queue without a frame needs no test.
 use Prim.Native.Nat.{ℕ, ◌-◌, ◌≤◌}
-use mathlib.Core.Bool.{Bool, true, false, not, ◌&&◌}
+use mathlib.Core.Bool.{Bool, true, false, ◌&&◌}
 use mathlib.Core.List.{List}
-use mathlib.Core.Path.{◌≡◌, refl, ap}
+use mathlib.Core.Path.{◌≡◌, refl, sym, ◌∙◌, ap}
 use native.Mathlib.Omega.{arith}
 use lib.ListN.{length}
+use borrow.Author.Tests.{eq-eqb}
 use Rattle.table.specs.Wire.{wire_size}
 use Rattle.table.specs.Rows.{contents}
 use Rattle.planner.proofs.Laws as law
@@ -14,8 +15,7 @@ use Rattle.machine.specs.State.{waiting, view}
 use Rattle.machine.specs.Record.{all_of, on_sending}
 use Rattle.frames.specs.Tests.{limits_by, best_test, sending_test}
 use Rattle.record.specs.Steps.{others_test}
-use Rattle.table.proofs.Laws.{fails, holds}
-use Rattle.record.proofs.check.others_ok.Goals.{then-p-gt0+else-not-best_ok, else-p-gt0}
+use Rattle.record.proofs.check.others_ok.Goals.{Joined-p-eq0, then-p-eq0, else-p-eq0}
 use Rattle.record.proofs.check.others_ok.Goals as goal
 
 abbrev best_ok : Port → ℕ → Bool
@@ -31,33 +31,28 @@ none ok n xs h =
     let z : 0 - length xs ≡ 0 = omega arith in
     rw (e, z) refl
 
-module _ (p : Port) (most : ℕ) (is-most : most ≡ wire_size p.table.header.payload) {r : Bool} (e : r ≡ best_ok p most) where
-  best-false : not r ≡ true → best_ok p (wire_size p.table.header.payload) ≡ false
-  best-false h = rw (← is-most) (fails e h)
-
-  best-true : not r ≡ false → best_ok p (wire_size p.table.header.payload) ≡ true
-  best-true h = rw (← is-most) (holds e h)
-
 module _ (limits : List ℕ) (p : Port) where
   by_parts : others_test limits (view p) ≡ (best_ok p (wire_size p.table.header.payload) && wire_ok limits p)
   unfolding view others_test
   by_parts = rw (law.best_is (contents p.table)) refl
 
-  best-fails : best_ok p (wire_size p.table.header.payload) ≡ false → false ≡ others_test limits (view p)
-  best-fails e = rw (by_parts, e) refl
+  best-fails : {r : Bool} → r ≡ best_ok p (wire_size p.table.header.payload) → r ≡ false → r ≡ others_test limits (view p)
+  best-fails e h = rw (by_parts, sym e ∙ h) h
 
-  by_wire : best_ok p (wire_size p.table.header.payload) ≡ true → {r : Bool} → r ≡ wire_ok limits p → r ≡ others_test limits (view p)
-  by_wire e q = rw (by_parts, e) q
+  by_wire : {r s : Bool} → s ≡ best_ok p (wire_size p.table.header.payload) → s ≡ true → r ≡ wire_ok limits p → r ≡ others_test limits (view p)
+  by_wire e h q = rw (by_parts, sym e ∙ h) q
 
-pub returns-then-not-best_ok : goal.returns-then-not-best_ok
-returns-then-not-best_ok c =
-    best-fails _ c.args.p (best-false c.args.p c.wire_size.result c.wire_size.ensures.value c.best_ok.ensures (ap not c.if-not-best_ok.true))
+told : (c : Joined-p-eq0) → c.if-p-eq0.value ≡ best_ok c.args.p.now (wire_size c.args.p.now.table.header.payload)
+told c =
+    elim c.if-p-eq0.branch [
+      | then-p-eq0 w ↦ w.value-is ∙ eq-eqb c.args.p.now.best.count 0 w.if-p-eq0.true ∙ sym (none (best_test (wire_size c.args.p.now.table.header.payload) c.args.p.now.clock) c.args.p.now.best.count c.args.p.now.best.frames (omega (arith, w.if-p-eq0.true)))
+      | else-p-eq0 w ↦ w.value-is ∙ w.best_ok.ensures ∙ ap (λ m. best_ok c.args.p.now m) w.wire_size.ensures.value
+    ]
 
-pub returns : goal.returns
-returns c =
-    let best : best_ok c.args.p (wire_size c.args.p.table.header.payload) ≡ true =
-    elim c.if-p-gt0.branch [
-      | then-p-gt0+else-not-best_ok w ↦ best-true c.args.p w.wire_size.result w.wire_size.ensures.value w.best_ok.ensures (ap not w.if-not-best_ok.false)
-      | else-p-gt0 w ↦ none _ _ _ w.if-p-gt0.false
-    ] in
-    by_wire (limits_by c.args.a c.args.b c.args.p.table.rows) c.args.p best c.wire_ok.ensures
+pub returns-then-best_ok : goal.returns-then-best_ok
+returns-then-best_ok c =
+    by_wire (limits_by c.args.lanes.a c.args.lanes.b c.args.p.now.table.rows) c.args.p.now (told (goal.at.returns-then-best_ok c).Joined-p-eq0) c.if-best_ok.true c.wire_ok.ensures
+
+pub returns-else-best_ok : goal.returns-else-best_ok
+returns-else-best_ok c =
+    best-fails (limits_by c.args.lanes.a c.args.lanes.b c.args.p.now.table.rows) c.args.p.now (told (goal.at.returns-else-best_ok c).Joined-p-eq0) c.if-best_ok.false

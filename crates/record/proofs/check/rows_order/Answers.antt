@@ -16,7 +16,7 @@ use Rattle.machine.specs.declared.Port.{Port}
 use Rattle.machine.specs.Limits.{class_places}
 use Rattle.machine.specs.State.{waiting, instants_of, view}
 use Rattle.machine.specs.Record.{all_of, none_after, sending, each_row, rows_taken}
-use Rattle.machine.proofs.Places.{Places, port_places, waits, too_many}
+use Rattle.machine.proofs.Places.{Places, waits, too_many}
 use Rattle.frames.specs.Tests.{limits_by, frame_test}
 use Rattle.frames.proofs.Laws.{no_frame_lem}
 use Rattle.spacing.specs.Spread.{spread_test}
@@ -97,21 +97,21 @@ unfolding view
 by-past p made b e = rw (← b.last) e
 
 -- no instant is after the clock
-on-time : (c : After-no_row_frame) → past c.args.p ≡ true
-on-time c = holds (by-past c.args.p _ c.requires.bounded c.instants_ok.ensures) (ap not c.if-not-instants_ok.false)
+on-time : (c : After-no_row_frame) → past c.args.p.now ≡ true
+on-time c = holds (by-past c.args.p.now _ c.requires.bounded c.instants_ok.ensures) (ap not c.if-not-instants_ok.false)
 
 pub instants_ok-requires : goal.instants_ok-requires
 instants_ok-requires c = record { rows_le_most_rows = c.requires.count_le_most_rows; rows_in_bounds = c.requires.bounded.long }
 
 pub returns-then-not-instants_ok : goal.returns-then-not-instants_ok
 returns-then-not-instants_ok c =
-    late _ c.args.p (port_places c.args.p _ c.well_formed.0) c.requires.count_le_most_rows (fails (by-past c.args.p _ c.requires.bounded c.instants_ok.ensures) (ap not c.if-not-instants_ok.true))
+    late _ c.args.p.now c.requires.places c.requires.count_le_most_rows (fails (by-past c.args.p.now _ c.requires.bounded c.instants_ok.ensures) (ap not c.if-not-instants_ok.true))
 
 pub returns-then-no_row_frame : goal.returns-then-no_row_frame
 returns-then-no_row_frame c =
-    let p = c.args.p in
-    quiet-rows _ p (port_places p _ c.well_formed.0) c.requires.count_le_most_rows (on-time (goal.at.returns-then-no_row_frame c).After-no_row_frame) (quiet p.wire p.a p.b p.table c.requires.count_le_most_rows _ p.last p.clock (sym c.no_row_frame.ensures ∙ c.if-no_row_frame.true))
+    let p = c.args.p.now in
+    quiet-rows _ p c.requires.places c.requires.count_le_most_rows (on-time (goal.at.returns-then-no_row_frame c).After-no_row_frame) (quiet p.wire p.a p.b p.table c.requires.count_le_most_rows _ p.last p.clock (sym c.no_row_frame.ensures ∙ c.if-no_row_frame.true))
 
 pub returns : goal.returns
 returns c =
-    by_order c.args.a c.args.b c.args.p (port_places c.args.p _ c.well_formed.0) c.requires.count_le_most_rows (on-time (goal.at.returns c).After-no_row_frame) c.order.result c.order.ensures
+    by_order c.args.lanes.a c.args.lanes.b c.args.p.now c.requires.places c.requires.count_le_most_rows (on-time (goal.at.returns c).After-no_row_frame) c.order.result c.order.ensures

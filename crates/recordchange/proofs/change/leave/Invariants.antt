@@ -1,7 +1,7 @@
 -- `recordchange::change::leave` meets its contract: after i turns the first i frames behind the head stand a place further up.
-use Prim.Native.Nat.{◌+◌, ◌-◌, ◌≤◌}
+use Prim.Native.Nat.{◌+◌}
 use mathlib.Core.Path.{◌≡◌}
-use lib.ListN.{length, take}
+use lib.ListN.{take}
 use Rattle.words.specs.Words.{spread}
 use Rattle.recordbytes.specs.Layout.{frame_width}
 use Rattle.recordbytes.specs.Record.{frame_words}
@@ -9,7 +9,4 @@ use Rattle.recordchange.proofs.Leaving.{moved}
 use Rattle.recordchange.proofs.change.leave.Given as goal
 
 abbrev pub invariant-loop-i : goal.invariant-loop-i
-invariant-loop-i l = (l.i ≤ l.rest) × (length l.out ≡ length l.initial.out) × (l.out ≡ spread frame_words frame_width (l.k + 1) (take l.i (moved l.initial.out l.k l.rest)) l.initial.out)
-
-abbrev pub decreases-loop-i : goal.decreases-loop-i
-decreases-loop-i l = l.rest - l.i
+invariant-loop-i l = l.out ≡ spread frame_words frame_width (l.k + 1) (take l.i (moved l.initial.out l.k l.rest)) l.initial.out

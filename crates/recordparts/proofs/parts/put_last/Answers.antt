@@ -1,9 +1,6 @@
 -- `recordparts::parts::put_last` meets its contract: a mark of 1 and the instant behind it, or a mark of 0 alone.
-use Rattle.recordparts.proofs.Storage.{known_put, unknown_put}
+use Rattle.recordparts.proofs.Storage.{instant_put}
 use Rattle.recordparts.proofs.parts.put_last.Goals as goal
 
-pub returns-then-last : goal.returns-then-last
-returns-then-last c = known_put _ _ _ c.if-last.true c.put_word.ensures c.put_word-then-last.ensures
-
-pub returns : goal.returns
-returns c = unknown_put _ _ _ c.if-last.false c.put_word-2.ensures
+pub returns-in-Some : goal.returns-in-Some
+returns-in-Some c = instant_put _ _ c.in-Some.is c.put_word-in-Some.ensures c.put_word-in-Some-2.ensures

@@ -1,7 +1,6 @@
 -- `recordread::read::bounds_at` meets its contract: after i turns the first i are in their places.
-use mathlib.Core.Path.{◌≡◌, refl, ◌∙◌}
+use mathlib.Core.Path.{◌≡◌, refl}
 use native.Mathlib.Omega.{arith}
-use lib.ListN.{length-set}
 use Rattle.words.specs.Words.{word_at}
 use Rattle.table.specs.Limits.{most_rows}
 use Rattle.recordbytes.specs.Layout.{bounds_start, bound_width}
@@ -9,13 +8,13 @@ use Rattle.recordread.proofs.Named.{none_gathered, one_more}
 use Rattle.recordread.proofs.read.bounds_at.Goals as goal
 
 pub loop-i-init : goal.loop-i-init
-loop-i-init c = (omega arith, refl, none_gathered 0 most_rows (word_at c.args.s.now) bound_width bounds_start refl)
+loop-i-init c = none_gathered 0 most_rows (word_at c.args.s.now) bound_width bounds_start refl
 
 pub loop-i-preserved : goal.loop-i-preserved
 loop-i-preserved c =
-    (omega arith, length-set c.loop-i.bounds c.loop-i.i c.word.result ∙ c.loop-i.invariant.1, one_more 0 most_rows (word_at c.args.s.now) bound_width bounds_start c.loop-i.i (omega arith) c.loop-i.invariant.2 c.word.ensures)
+    one_more 0 most_rows (word_at c.args.s.now) bound_width bounds_start c.loop-i.i (omega arith) c.loop-i.invariant c.word.ensures
 
 pub returns : goal.returns
 returns c =
     let all : c.loop-i.i ≡ c.args.n = omega arith in
-    rw all at c.loop-i.invariant.2
+    rw all at c.loop-i.invariant

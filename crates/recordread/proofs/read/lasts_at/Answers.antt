@@ -6,7 +6,7 @@ use Rattle.recordread.proofs.Named.{no_lasts, next_last, all_lasts}
 use Rattle.recordread.proofs.read.lasts_at.Goals as goal
 
 pub loop-i-init : goal.loop-i-init
-loop-i-init c = (omega arith, refl, no_lasts c.args.s.now c.args.n c.zero_last-lasts.ensures)
+loop-i-init c = (omega arith, refl, no_lasts c.args.s.now c.args.n refl)
 
 pub loop-i-preserved : goal.loop-i-preserved
 loop-i-preserved c =

@@ -5,4 +5,4 @@ use Rattle.recordbytes.specs.Record.{frame_at}
 use Rattle.recordread.proofs.read.queue_at.Goals as goal
 
 pub returns : goal.returns
-returns c = rw (c.frames_at-frames.ensures, c.word-count.ensures, gathered_length (frame_at _) frame_width _ _)
+returns g c = rw (c.frames_at-frames.ensures, c.word-count.ensures, gathered_length (frame_at _) frame_width _ _)

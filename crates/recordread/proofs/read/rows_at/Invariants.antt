@@ -1,7 +1,5 @@
 -- `recordread::read::rows_at` meets its contract: after i turns the first i are in their places.
-use Prim.Native.Nat.{◌-◌, ◌≤◌}
 use mathlib.Core.Path.{◌≡◌}
-use lib.ListN.{length}
 use Rattle.words.specs.Words.{gathered}
 use Rattle.machine.specs.State.{placed}
 use Rattle.table.specs.Limits.{most_rows}
@@ -11,7 +9,4 @@ use Rattle.recordbytes.specs.Layout.{rows_start}
 use Rattle.recordread.proofs.read.rows_at.Given as goal
 
 abbrev pub invariant-loop-i : goal.invariant-loop-i
-invariant-loop-i l = (l.i ≤ l.n) × (length l.rows ≡ most_rows) × (l.rows ≡ placed most_rows no_row (gathered (row_at l.s) row_width rows_start l.i))
-
-abbrev pub decreases-loop-i : goal.decreases-loop-i
-decreases-loop-i l = l.n - l.i
+invariant-loop-i l = l.rows ≡ placed most_rows no_row (gathered (row_at l.s) row_width rows_start l.i)

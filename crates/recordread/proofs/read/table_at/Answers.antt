@@ -3,4 +3,4 @@ use Rattle.recordread.proofs.Named.{table_named}
 use Rattle.recordread.proofs.read.table_at.Goals as goal
 
 pub returns : goal.returns
-returns c = table_named _ c.word-count.ensures c.rows_at-rows.ensures c.u32_at.ensures c.u32_at-2.ensures c.u16_at.ensures
+returns c = table_named _ c.word-count.ensures c.rows_at.ensures c.u32_at.ensures c.u32_at-2.ensures c.u16_at.ensures

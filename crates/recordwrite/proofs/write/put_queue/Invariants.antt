@@ -1,5 +1,5 @@
 -- `recordwrite::write::put_queue` meets its contract: after i turns the first i frames are stored behind the count.
-use Prim.Native.Nat.{◌+◌, ◌-◌, ◌≤◌}
+use Prim.Native.Nat.{◌+◌}
 use mathlib.Core.Path.{◌≡◌}
 use lib.ListN.{length, take}
 use Rattle.words.specs.Words.{spread}
@@ -8,7 +8,4 @@ use Rattle.recordbytes.specs.Record.{frame_words}
 use Rattle.recordwrite.proofs.write.put_queue.Given as goal
 
 abbrev pub invariant-loop-i : goal.invariant-loop-i
-invariant-loop-i l = (l.i ≤ l.n) × (length l.out ≡ length l.initial.out) × (l.out ≡ spread frame_words frame_width (l.k + 1) (take l.i l.q.frames) l.initial.out)
-
-abbrev pub decreases-loop-i : goal.decreases-loop-i
-decreases-loop-i l = l.n - l.i
+invariant-loop-i g l = (length l.out ≡ length l.initial.out) × (l.out ≡ spread frame_words frame_width (l.k + 1) (take l.i l.q.frames) l.initial.out)

@@ -1,11 +1,7 @@
 -- `recordwrite::write::write_patch` meets its contract: where there is room each part is stored over what the one before has left.
-use native.Mathlib.Omega.{arith}
-use Rattle.recordwrite.proofs.Storage.{no_patch_lem, patch_put}
+use Rattle.recordwrite.proofs.Storage.{patch_put}
 use Rattle.recordwrite.proofs.write.write_patch.Goals as goal
-
-pub returns-then-out-lt-RECORD_SIZE : goal.returns-then-out-lt-RECORD_SIZE
-returns-then-out-lt-RECORD_SIZE c = no_patch_lem c.args.out.now c.args.t c.args.last c.args.bounds (omega arith)
 
 pub returns : goal.returns
 returns c =
-    patch_put c.args.out.now c.args.t c.args.last c.args.bounds (omega (arith, c.if-out-lt-RECORD_SIZE.false)) c.put_table.ensures c.put_lasts.ensures c.put_bounds.ensures
+    patch_put c.args.out.now c.args.t c.args.last c.args.bounds c.if-out-lt-RECORD_SIZE.false c.put_table.ensures c.put_lasts.ensures c.put_bounds.ensures

@@ -3,4 +3,4 @@ use Rattle.runs.proofs.Files.{begins}
 use Rattle.runs.proofs.opened.begin.Goals as goal
 
 pub returns : goal.returns
-returns c = begins _ c.read-l.ensures c.open-o.ensures c.of_file-said.ensures
+returns c = begins _ c.try_open-o.ensures c.say-said.ensures

@@ -1,18 +1,16 @@
--- `saved::saved::clear` meets its contract: after i turns the first i bytes are zeros.
-use mathlib.Core.Path.{refl, ◌∙◌}
+-- `saved::saved::clear` meets its contract.
+use Prim.Native.Nat.{ℕ}
+use mathlib.Core.List.{List, ◌++◌}
+use mathlib.Core.Path.{◌≡◌, refl, ◌∙◌}
 use native.Mathlib.Omega.{arith}
-use lib.ListN.{length-set}
-use Rattle.saved.proofs.Clearing.{one_more, all_cleared}
+use lib.ListN.{replicate, drop, length-take}
+use Rattle.recordbytes.specs.Layout.{record_size}
+use Rattle.saved.specs.Saved.{cleared}
 use Rattle.saved.proofs.saved.clear.Goals as goal
 
-pub loop-i-init : goal.loop-i-init
-loop-i-init c = (omega arith, refl, refl)
-
-pub loop-i-preserved : goal.loop-i-preserved
-loop-i-preserved c = (omega arith, length-set c.loop-i.out c.loop-i.i 0 ∙ c.loop-i.invariant.1, one_more _ c.loop-i.i (omega arith) c.loop-i.invariant.2)
-
-pub shape_of-out : goal.shape_of-out
-shape_of-out c = c.loop-i.invariant.1
+zeros : (s t : List ℕ) (n : ℕ) → t ≡ replicate n 0 → n ≡ record_size → t ++ drop record_size s ≡ cleared s
+unfolding cleared
+zeros s t n e f = rw (e, f) refl
 
 pub returns : goal.returns
-returns c = all_cleared _ c.loop-i.i (omega arith) c.loop-i.invariant.2
+returns c = zeros c.args.out.now c.fill.new.self _ (c.fill.ensures.after (λ y e. e)) (length-take record_size c.args.out.now ∙ omega arith)

@@ -6,4 +6,4 @@ use Rattle.sheets.proofs.sheet.put_refusal.Goals as goal
 
 pub returns : goal.returns
 returns c =
-    at_most {m = 50} (omega arith) (answer_put (Refused c.args.number c.args.place) (omega arith) c.put_answer.ensures.value c.put_answer.ensures.out_after)
+    rw (← c.number.ensures.value, ← c.place.ensures) (at_most {m = 50} (omega arith) (answer_put (Refused c.number.result c.place.result) (omega arith) c.put_answer.ensures.value c.put_answer.ensures.out_after))

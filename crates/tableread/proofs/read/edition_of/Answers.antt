@@ -11,12 +11,12 @@ the_second : (s : List ℕ) → opens Avb2 s ≡ true → Avb2 ≡ edition_of s
 unfolding edition_of
 the_second s e = rw e refl
 
-the-first : (s : List ℕ) → opens Avb2 s ≡ false → Avb1 ≡ edition_of s
+the_first : (s : List ℕ) → opens Avb2 s ≡ false → Avb1 ≡ edition_of s
 unfolding edition_of
-the-first s e = rw e refl
+the_first s e = rw e refl
 
 pub returns-then-opens_as : goal.returns-then-opens_as
 returns-then-opens_as c = the_second _ (sym c.opens_as.ensures ∙ c.if-opens_as.true)
 
-pub returns : goal.returns
-returns c = the-first _ (sym c.opens_as.ensures ∙ c.if-opens_as.false)
+pub returns-else-opens_as : goal.returns-else-opens_as
+returns-else-opens_as c = the_first _ (sym c.opens_as.ensures ∙ c.if-opens_as.false)

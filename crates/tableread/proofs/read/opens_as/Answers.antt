@@ -1,56 +1,49 @@
--- `tableread::read::opens_as` meets its contract: each letter that differs makes one part of `opens` false.
+-- `tableread::read::opens_as` meets its contract: a file that starts with the letters has each in its place.
 use Prim.Native.Nat.{ℕ}
-use mathlib.Core.Bool.{false}
-use mathlib.Core.List.{List}
-use mathlib.Core.Path.{◌≡◌, refl}
+use mathlib.Core.Bool.{Bool, true, false, ◌&&◌, false≢true}
+use mathlib.Core.List.{List, [], ◌∷◌}
+use mathlib.Core.Path.{◌≡◌, refl, sym, ◌∙◌, ap}
 use lib.Dec.{eqb}
-use lib.ListN.{get_or}
-use borrow.Author.Tests.{eq-eqb, ne_eqb}
+use borrow.Author.Tests.{eqb-true, eq-eqb, ne_eqb}
+use Rattle.std.specs.List.{starts_with}
 use Rattle.tablefile.specs.declared.Edition.{Edition}
-use Rattle.tablefile.specs.Layout.{letters}
+use Rattle.tablefile.specs.declared.Edition.TheVariants.{Avb1, Avb2}
+use Rattle.tablefile.specs.Layout.{letters, last_letter}
 use Rattle.tablefile.specs.Reading.{opens}
 use Rattle.tableread.proofs.read.opens_as.Goals as goal
 
--- the bytes that were read, and the edition's letters
-module _ (e : Edition) (s : List ℕ) {own : List ℕ} (el : own ≡ letters e) {a : ℕ} (ea : a ≡ get_or s 0 0) where
-  first-differs : (a ≡ get_or own 0 0 → ⊥) → false ≡ opens e s
-  unfolding opens
-  first-differs h = rw (ne_eqb (get_or s 0 0) 65 (rw (ea, el) at h)) refl
+swap : (a b : ℕ) → eqb a b ≡ eqb b a
+swap a b = go (eqb a b) refl
+  where
+    go : (t : Bool) → eqb a b ≡ t → eqb a b ≡ eqb b a
+    go true e = e ∙ sym (eq-eqb b a (sym (eqb-true a b e)))
+    go false e = e ∙ sym (ne_eqb b a (λ h. false≢true (sym e ∙ eq-eqb a b (sym h))))
 
-  module _ (same : a ≡ get_or own 0 0) {b : ℕ} (eb : b ≡ get_or s 1 0) where
-    one : get_or s 0 0 ≡ 65
-    one = rw (ea, el) at same
+none : (p : Bool) → (p && false) ≡ false
+none true = refl
+none false = refl
 
-    second-differs : (b ≡ get_or own 1 0 → ⊥) → false ≡ opens e s
-    unfolding opens
-    second-differs h = rw (eq-eqb (get_or s 0 0) 65 one, ne_eqb (get_or s 1 0) 86 (rw (eb, el) at h)) refl
+four : (p q r t : Bool) → (p && (q && (r && (t && true)))) ≡ ((p && q) && (r && t))
+four false q r t = refl
+four true false r t = refl
+four true true false t = refl
+four true true true true = refl
+four true true true false = refl
 
-    module _ (same-2 : b ≡ get_or own 1 0) {c : ℕ} (ec : c ≡ get_or s 2 0) where
-      two : get_or s 1 0 ≡ 86
-      two = rw (eb, el) at same-2
+-- no letter is a 0, which is what is read behind the last byte
+letter : (e : Edition) → eqb 0 (last_letter e) ≡ false
+letter Avb1 = refl
+letter Avb2 = refl
 
-      third-differs : (c ≡ get_or own 2 0 → ⊥) → false ≡ opens e s
-      unfolding opens
-      third-differs h = rw (eq-eqb (get_or s 0 0) 65 one, eq-eqb (get_or s 1 0) 86 two, ne_eqb (get_or s 2 0) 66 (rw (ec, el) at h)) refl
-
-      fourth-decides : c ≡ get_or own 2 0 → {d : ℕ} → d ≡ get_or s 3 0 → eqb d (get_or own 3 0) ≡ opens e s
-      unfolding opens
-      fourth-decides same-3 ed =
-          let three : get_or s 2 0 ≡ 66 = rw (ec, el) at same-3 in
-          rw (ed, el, eq-eqb (get_or s 0 0) 65 one, eq-eqb (get_or s 1 0) 86 two, eq-eqb (get_or s 2 0) 66 three) refl
-
-pub returns-then-byte-own : goal.returns-then-byte-own
-returns-then-byte-own c =
-    first-differs _ _ c.letters-own.ensures c.byte.ensures c.if-byte-own.true
-
-pub returns-then-byte-own-2 : goal.returns-then-byte-own-2
-returns-then-byte-own-2 c =
-    second-differs _ _ c.letters-own.ensures c.byte.ensures c.if-byte-own.false c.byte-2.ensures c.if-byte-own-2.true
-
-pub returns-then-byte-own-3 : goal.returns-then-byte-own-3
-returns-then-byte-own-3 c =
-    third-differs _ _ c.letters-own.ensures c.byte.ensures c.if-byte-own.false c.byte-2.ensures c.if-byte-own-2.false c.byte-3.ensures c.if-byte-own-3.true
+starts : (e : Edition) (s : List ℕ) → starts_with eqb s (letters e) ≡ opens e s
+unfolding opens
+starts e [] = refl
+starts e (a ∷ []) = none (eqb 65 a) ∙ rw (none (eqb a 65)) refl
+starts e (a ∷ b ∷ []) = ap (◌&&◌ (eqb 65 a)) (none (eqb 86 b)) ∙ none (eqb 65 a) ∙ sym (none (eqb a 65 && eqb b 86))
+starts e (a ∷ b ∷ c ∷ []) =
+    ap (◌&&◌ (eqb 65 a)) (ap (◌&&◌ (eqb 86 b)) (none (eqb 66 c)) ∙ none (eqb 86 b)) ∙ none (eqb 65 a)
+    ∙ sym (ap (◌&&◌ (eqb a 65 && eqb b 86)) (ap (◌&&◌ (eqb c 66)) (letter e) ∙ none (eqb c 66)) ∙ none (eqb a 65 && eqb b 86))
+starts e (a ∷ b ∷ c ∷ d ∷ s) = rw (swap 65 a, swap 86 b, swap 66 c, swap (last_letter e) d) (four (eqb a 65) (eqb b 86) (eqb c 66) (eqb d (last_letter e)))
 
 pub returns : goal.returns
-returns c =
-    fourth-decides _ _ c.letters-own.ensures c.byte.ensures c.if-byte-own.false c.byte-2.ensures c.if-byte-own-2.false c.byte-3.ensures c.if-byte-own-3.false c.byte-4.ensures
+returns c = c.starts_with.ensures.value ∙ ap (starts_with eqb c.args.s.now) c.letters.ensures ∙ starts c.args.edition c.args.s.now

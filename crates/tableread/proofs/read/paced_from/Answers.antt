@@ -4,4 +4,4 @@ use Rattle.tableread.proofs.read.paced_from.Goals as goal
 
 pub returns : goal.returns
 returns c =
-    paced_built _ _ c.requires c.class_of-class.ensures c.tagged_of-tagged.ensures c.with_payload-first.ensures c.pace_from.ensures
+    paced_built _ _ c.byte-map.ensures c.class_of.ensures c.tagged_of.ensures c.no_row.ensures c.with_payload-first.ensures c.pace_from.ensures

@@ -1,36 +1,44 @@
--- `tableread::read::read_header` meets its contract: each return is the first check of the header that fails.
-use mathlib.Core.Bool.{not}
-use mathlib.Core.Path.{ap}
-use Rattle.table.proofs.Laws as law
-use Rattle.tableread.proofs.Headers.{short, other_letters, high_a, high_b, high_payload, no_rows, many_rows, right}
+-- `tableread::read::read_header` meets its contract: the checks of the header are made in their order, and the first that refuses decides.
+use mathlib.Core.Path.{◌≡◌, ◌∙◌, ap}
+use mathlib.Core.Bool.{◌&&◌}
+use lib.Dec.{leb}
+use Rattle.std.proofs.Common.{rules}
+use Rattle.table.specs.declared.Header.{Header}
+use Rattle.table.specs.Limits.{most_rows, most_slope, most_payload}
+use Rattle.table.specs.Checks.{unless}
+use Rattle.tablefile.specs.Reading.{row_count, header}
+use Rattle.tableread.proofs.Faults.{alone, stop, pass}
 use Rattle.tableread.proofs.read.read_header.Goals as goal
 
-pub returns-then-s-lt-HEADER_SIZE : goal.returns-then-s-lt-HEADER_SIZE
-returns-then-s-lt-HEADER_SIZE c = short _ _ c.if-s-lt-HEADER_SIZE.true
+pub returns-in_err-check : goal.returns-in_err-check
+unfolding header
+returns-in_err-check c =
+    stop c.from_residual.result _ c.from_residual.ensures.1 c.in_err-check.was c.check.ensures
 
-pub returns-then-not-opens_as : goal.returns-then-not-opens_as
-returns-then-not-opens_as c = other_letters _ _ c.if-s-lt-HEADER_SIZE.false (law.fails c.opens_as.ensures (ap not c.if-not-opens_as.true))
+pub returns-in_err-check-2 : goal.returns-in_err-check-2
+unfolding header
+returns-in_err-check-2 c =
+    pass _ c.in_ok-check.was c.check.ensures (stop c.from_residual-in_err-check-2.result _ c.from_residual-in_err-check-2.ensures.1 c.in_err-check-2.was (c.check-2.ensures ∙ ap (λ b. unless b 2 0) c.opens_as.ensures))
 
-pub returns-then-u32_at-gt-MOST_SLOPE : goal.returns-then-u32_at-gt-MOST_SLOPE
-returns-then-u32_at-gt-MOST_SLOPE c =
-    high_a _ _ c.if-s-lt-HEADER_SIZE.false (law.holds c.opens_as.ensures (ap not c.if-not-opens_as.false)) c.u32_at.ensures c.if-u32_at-gt-MOST_SLOPE.true
+pub returns-in_err-check-3 : goal.returns-in_err-check-3
+unfolding header
+returns-in_err-check-3 c =
+    pass _ c.in_ok-check.was c.check.ensures (pass _ c.in_ok-check-2.was (c.check-2.ensures ∙ ap (λ b. unless b 2 0) c.opens_as.ensures) (stop c.from_residual-in_err-check-3.result _ c.from_residual-in_err-check-3.ensures.1 c.in_err-check-3.was (c.check-3.ensures ∙ ap (λ (h : Header). unless (leb h.idlea most_slope) 5 4) c.header_of-h.ensures)))
 
-pub returns-then-u32_at-gt-MOST_SLOPE-2 : goal.returns-then-u32_at-gt-MOST_SLOPE-2
-returns-then-u32_at-gt-MOST_SLOPE-2 c =
-    high_b _ _ c.if-s-lt-HEADER_SIZE.false (law.holds c.opens_as.ensures (ap not c.if-not-opens_as.false)) c.u32_at.ensures c.if-u32_at-gt-MOST_SLOPE.false c.u32_at-2.ensures c.if-u32_at-gt-MOST_SLOPE-2.true
+pub returns-in_err-check-4 : goal.returns-in_err-check-4
+unfolding header
+returns-in_err-check-4 c =
+    pass _ c.in_ok-check.was c.check.ensures (pass _ c.in_ok-check-2.was (c.check-2.ensures ∙ ap (λ b. unless b 2 0) c.opens_as.ensures) (pass _ c.in_ok-check-3.was (c.check-3.ensures ∙ ap (λ (h : Header). unless (leb h.idlea most_slope) 5 4) c.header_of-h.ensures) (stop c.from_residual-in_err-check-4.result _ c.from_residual-in_err-check-4.ensures.1 c.in_err-check-4.was (c.check-4.ensures ∙ ap (λ (h : Header). unless (leb h.idleb most_slope) 5 8) c.header_of-h.ensures))))
 
-pub returns-then-u16_at-gt-MOST_PAYLOAD : goal.returns-then-u16_at-gt-MOST_PAYLOAD
-returns-then-u16_at-gt-MOST_PAYLOAD c =
-    high_payload _ _ c.if-s-lt-HEADER_SIZE.false (law.holds c.opens_as.ensures (ap not c.if-not-opens_as.false)) c.u32_at.ensures c.if-u32_at-gt-MOST_SLOPE.false c.u32_at-2.ensures c.if-u32_at-gt-MOST_SLOPE-2.false c.u16_at.ensures c.if-u16_at-gt-MOST_PAYLOAD.true
+pub returns-in_err-check-5 : goal.returns-in_err-check-5
+unfolding header
+returns-in_err-check-5 c =
+    pass _ c.in_ok-check.was c.check.ensures (pass _ c.in_ok-check-2.was (c.check-2.ensures ∙ ap (λ b. unless b 2 0) c.opens_as.ensures) (pass _ c.in_ok-check-3.was (c.check-3.ensures ∙ ap (λ (h : Header). unless (leb h.idlea most_slope) 5 4) c.header_of-h.ensures) (pass _ c.in_ok-check-4.was (c.check-4.ensures ∙ ap (λ (h : Header). unless (leb h.idleb most_slope) 5 8) c.header_of-h.ensures) (stop c.from_residual-in_err-check-5.result _ c.from_residual-in_err-check-5.ensures.1 c.in_err-check-5.was (c.check-5.ensures ∙ ap (λ (h : Header). unless (leb h.payload most_payload) 5 12) c.header_of-h.ensures)))))
 
-pub returns-then-count-lt1 : goal.returns-then-count-lt1
-returns-then-count-lt1 c =
-    no_rows _ _ c.if-s-lt-HEADER_SIZE.false (law.holds c.opens_as.ensures (ap not c.if-not-opens_as.false)) c.u32_at.ensures c.if-u32_at-gt-MOST_SLOPE.false c.u32_at-2.ensures c.if-u32_at-gt-MOST_SLOPE-2.false c.u16_at.ensures c.if-u16_at-gt-MOST_PAYLOAD.false c.byte-count.ensures c.if-count-lt1.true
-
-pub returns-then-count-gt-ROWS : goal.returns-then-count-gt-ROWS
-returns-then-count-gt-ROWS c =
-    many_rows _ _ c.if-s-lt-HEADER_SIZE.false (law.holds c.opens_as.ensures (ap not c.if-not-opens_as.false)) c.u32_at.ensures c.if-u32_at-gt-MOST_SLOPE.false c.u32_at-2.ensures c.if-u32_at-gt-MOST_SLOPE-2.false c.u16_at.ensures c.if-u16_at-gt-MOST_PAYLOAD.false c.byte-count.ensures c.if-count-lt1.false c.if-count-gt-ROWS.true
+counted : (c : goal.After-check-6) → c.contains.result ≡ (leb 1 (row_count c.args.s.now) && leb (row_count c.args.s.now) most_rows)
+counted c = search (rules, c.contains.ensures.value, c.contains.ensures.cases)
 
 pub returns : goal.returns
+unfolding header
 returns c =
-    right _ _ c.if-s-lt-HEADER_SIZE.false (law.holds c.opens_as.ensures (ap not c.if-not-opens_as.false)) c.u32_at.ensures c.if-u32_at-gt-MOST_SLOPE.false c.u32_at-2.ensures c.if-u32_at-gt-MOST_SLOPE-2.false c.u16_at.ensures c.if-u16_at-gt-MOST_PAYLOAD.false c.byte-count.ensures c.if-count-lt1.false c.if-count-gt-ROWS.false
+    pass _ c.in_ok-check.was c.check.ensures (pass _ c.in_ok-check-2.was (c.check-2.ensures ∙ ap (λ b. unless b 2 0) c.opens_as.ensures) (pass _ c.in_ok-check-3.was (c.check-3.ensures ∙ ap (λ (h : Header). unless (leb h.idlea most_slope) 5 4) c.header_of-h.ensures) (pass _ c.in_ok-check-4.was (c.check-4.ensures ∙ ap (λ (h : Header). unless (leb h.idleb most_slope) 5 8) c.header_of-h.ensures) (pass _ c.in_ok-check-5.was (c.check-5.ensures ∙ ap (λ (h : Header). unless (leb h.payload most_payload) 5 12) c.header_of-h.ensures) (c.check-6.ensures ∙ ap (λ b. unless b 3 14) (counted c) ∙ alone _)))))

@@ -1,21 +1,14 @@
--- `tablewrite::write::rows_allowed` meets its contract: the search goes from row to row.
-use mathlib.Core.Path.{refl, sym, ◌∙◌}
-use native.Mathlib.Omega.{arith}
-use Rattle.table.proofs.Laws.{places, none_yet, fails_here, passes_here, all_passed}
+-- `tablewrite::write::rows_allowed` meets its contract: the rows from the front on that the edition allows, counted.
+use mathlib.Core.Path.{◌∙◌}
+use Rattle.std.proofs.Common.{rules, tests}
+use Rattle.std.proofs.lemmas.Iterator.{YieldsList-from_slice}
+use Rattle.std.proofs.lemmas.Iterator.Consumers.{count_from_yields_List}
+use Rattle.std.proofs.lemmas.Iterator.Search.{YieldsList-from_take_while}
 use Rattle.tablefile.specs.Layout.{allows}
+use Rattle.tablewrite.proofs.Sizes.{passing_count}
 use Rattle.tablewrite.proofs.write.rows_allowed.Goals as goal
-
-pub loop-i-init : goal.loop-i-init
-loop-i-init c = (refl, omega arith, none_yet c.args.t (places c.args.t _ c.well_formed.1.0) c.requires (allows c.args.edition))
-
-pub returns-then-not-allowed : goal.returns-then-not-allowed
-returns-then-not-allowed c =
-    fails_here c.args.t (places c.args.t _ c.well_formed.1.0) c.requires (allows c.args.edition) c.loop-i.i c.loop-i.invariant.2 c.loop-i-test.true (sym c.allowed.ensures ∙ c.if-not-allowed.true)
-
-pub loop-i-preserved : goal.loop-i-preserved
-loop-i-preserved c =
-    (refl, omega arith, passes_here c.args.t (places c.args.t _ c.well_formed.1.0) c.requires (allows c.args.edition) c.loop-i.i c.loop-i.invariant.2 c.loop-i-test.true (sym c.allowed.ensures ∙ c.if-not-allowed.false))
 
 pub returns : goal.returns
 returns c =
-    all_passed c.args.t (places c.args.t _ c.well_formed.1.0) c.requires (allows c.args.edition) c.loop-i.i c.loop-i.invariant.2 c.loop-i-test.false
+    count_from_yields_List c.take_while.result _ c.count.ensures.ran (YieldsList-from_take_while _ (allows c.args.edition) (YieldsList-from_slice c.args.rows.now (cc)) c.take_while.ensures.closure c.take_while.ensures.done (λ x b q k. search (rules, tests)))
+    ∙ passing_count (allows c.args.edition) c.args.rows.now

@@ -9,19 +9,20 @@ use lib.Dec.{ltb, eqb}
 use mir.Syntax.{w64}
 use mir.Val.{Fits}
 use borrow.Author.Tests.{lt-ltb, le-ltb, ne_eqb}
+use Rattle.std.specs.declared.option.Option.{Option}
+use Rattle.std.specs.declared.option.Option.TheVariants.{Some, None}
 use Rattle.table.specs.declared.Row.{Row}
 use Rattle.table.specs.Limits.{any_period}
 use Rattle.table.specs.Wire.{period_of}
 use Rattle.table.specs.Rows.{is_there}
 use Rattle.table.proofs.Laws.{fails, holds}
-use Rattle.machine.specs.declared.Last.{Last}
 use Rattle.machine.specs.State.{instant_of}
 use Rattle.tally.specs.Rows.{in_limit}
 use Rattle.tally.specs.Steps.{count_test}
 use Rattle.tally.proofs.rows.count_ok.Goals.{Else-not-is_there}
 use Rattle.tally.proofs.rows.count_ok.Goals as goal
 
-module _ (n x : ℕ) (l : Last) (limit : ℕ) (r : Row) where
+module _ (n x : ℕ) (l : Option ℕ) (limit : ℕ) (r : Row) where
   -- the test of a row in use
   abbrev asked : Bool
   asked = cond (is_there r) (count_test n x (instant_of l) limit (period_of r)) true
@@ -46,13 +47,13 @@ module _ (n x : ℕ) (l : Last) (limit : ℕ) (r : Row) where
       too_many h = rw (there, by-periods, le-ltb ((n - 1) * p) limit h) refl
 
       module _ (h : (n - 1) * p < limit) where
-        known : l.known ≡ true → eqb l.taken x ≡ asked
+        known : {y : ℕ} → l ≡ Some y → eqb y x ≡ asked
         unfolding count_test
-        known k = rw (there, by-periods, lt-ltb ((n - 1) * p) limit h, ne_eqb n 0 some, k) refl
+        known e = rw (there, by-periods, lt-ltb ((n - 1) * p) limit h, ne_eqb n 0 some, e) refl
 
-        unknown : l.known ≡ false → false ≡ asked
+        unknown : l ≡ None → false ≡ asked
         unfolding count_test
-        unknown k = rw (there, by-periods, lt-ltb ((n - 1) * p) limit h, ne_eqb n 0 some, k) refl
+        unknown e = rw (there, by-periods, lt-ltb ((n - 1) * p) limit h, ne_eqb n 0 some, e) refl
 
 -- the product is far inside the numbers of the machine
 fits : (n p : ℕ) → n ≤ 255 → p ≤ any_period → Fits w64 (n * p)
@@ -64,23 +65,23 @@ there c = holds c.is_there.ensures (ap not c.if-not-is_there.false)
 
 pub returns-then-not-is_there : goal.returns-then-not-is_there
 returns-then-not-is_there c =
-    empty c.args.count c.args.newest c.args.l c.args.limit c.args.row (fails c.is_there.ensures (ap not c.if-not-is_there.true))
+    empty c.args.count c.args.newest c.args.last c.args.limit c.args.row (fails c.is_there.ensures (ap not c.if-not-is_there.true))
 
 pub returns-then-count-eq0 : goal.returns-then-count-eq0
 returns-then-count-eq0 c =
-    no_frame_lem c.args.count c.args.newest c.args.l c.args.limit c.args.row (there (goal.at.returns-then-count-eq0 c).Else-not-is_there) c.if-count-eq0.true
+    no_frame_lem c.args.count c.args.newest c.args.last c.args.limit c.args.row (there (goal.at.returns-then-count-eq0 c).Else-not-is_there) c.if-count-eq0.true
 
 pub overflow_mul-more : goal.overflow_mul-more
 overflow_mul-more c = fits (c.args.count - 1) c.period.result (omega (arith, c.requires)) c.period.ensures.small
 
 pub returns-then-limit-more : goal.returns-then-limit-more
 returns-then-limit-more c =
-    too_many c.args.count c.args.newest c.args.l c.args.limit c.args.row (there (goal.at.returns-then-limit-more c).Else-not-is_there) c.if-count-eq0.false c.period.ensures.value c.if-limit-more.true
+    too_many c.args.count c.args.newest c.args.last c.args.limit c.args.row (there (goal.at.returns-then-limit-more c).Else-not-is_there) c.if-count-eq0.false c.period.ensures.value c.if-limit-more.true
 
-pub returns-then-l : goal.returns-then-l
-returns-then-l c =
-    known c.args.count c.args.newest c.args.l c.args.limit c.args.row (there (goal.at.returns-then-l c).Else-not-is_there) c.if-count-eq0.false c.period.ensures.value c.if-limit-more.false c.if-l.true
+pub returns-in-Some : goal.returns-in-Some
+returns-in-Some c =
+    known c.args.count c.args.newest c.args.last c.args.limit c.args.row (there (goal.at.returns-in-Some c).Else-not-is_there) c.if-count-eq0.false c.period.ensures.value c.if-limit-more.false c.in-Some.is
 
-pub returns : goal.returns
-returns c =
-    unknown c.args.count c.args.newest c.args.l c.args.limit c.args.row (there (goal.at.returns c).Else-not-is_there) c.if-count-eq0.false c.period.ensures.value c.if-limit-more.false c.if-l.false
+pub returns-in-None : goal.returns-in-None
+returns-in-None c =
+    unknown c.args.count c.args.newest c.args.last c.args.limit c.args.row (there (goal.at.returns-in-None c).Else-not-is_there) c.if-count-eq0.false c.period.ensures.value c.if-limit-more.false c.in-None.is

@@ -10,6 +10,7 @@ use Rattle.machine.specs.declared.Frame.{Frame}
 use Rattle.machine.specs.declared.Wire.{Wire}
 use Rattle.machine.specs.declared.Wire.TheVariants.{Free, Sending}
 use Rattle.tally.specs.Rows.{no_row_frames}
+use Rattle.tally.proofs.rows.no_row_frame.Goals.{then-a-gt0-via-then-a-gt0, then-a-gt0-via-else-a-gt0+then-b-gt0}
 use Rattle.tally.proofs.rows.no_row_frame.Goals as goal
 
 module _ (w : Wire) (a b : ℕ) where
@@ -32,10 +33,11 @@ module _ (w : Wire) (a b : ℕ) where
       sends f left e = rw (eq-eqb a 0 (omega arith), eq-eqb b 0 (omega arith), e) refl
 
 pub returns-then-a-gt0 : goal.returns-then-a-gt0
-returns-then-a-gt0 c = some-a c.args.w c.args.a c.args.b c.if-a-gt0.true
-
-pub returns-then-b-gt0 : goal.returns-then-b-gt0
-returns-then-b-gt0 c = some-b c.args.w c.args.a c.args.b c.if-a-gt0.false c.if-b-gt0.true
+returns-then-a-gt0 c =
+    elim c.then-a-gt0.branch [
+      | then-a-gt0-via-then-a-gt0 w ↦ some-a c.args.w c.args.a c.args.b w.if-a-gt0.true
+      | then-a-gt0-via-else-a-gt0+then-b-gt0 w ↦ some-b c.args.w c.args.a c.args.b w.if-a-gt0.false w.if-b-gt0.true
+    ]
 
 pub returns-in-Free : goal.returns-in-Free
 returns-in-Free c =

@@ -4,14 +4,13 @@ use mathlib.Core.Bool.{Bool, true, false, not, ◌&&◌}
 use mathlib.Core.List.{List}
 use mathlib.Core.Path.{◌≡◌, refl, ◌∙◌, ap}
 use lib.ListN.{length}
+use Rattle.std.specs.declared.option.Option.{Option}
 use Rattle.table.specs.declared.Class.TheVariants.{A, B}
 use Rattle.table.specs.declared.Table.{Table}
 use Rattle.table.specs.Limits.{most_rows, class_places}
 use Rattle.table.specs.Rows.{contents}
-use Rattle.table.proofs.Laws as table
 use Rattle.table.proofs.Laws.{fails, holds}
 use Rattle.figures.specs.declared.Lane.{Lane}
-use Rattle.machine.specs.declared.Last.{Last}
 use Rattle.machine.specs.declared.Queue.{Queue}
 use Rattle.machine.specs.declared.Wire.{Wire}
 use Rattle.machine.specs.Record.{up_to}
@@ -24,12 +23,13 @@ use Rattle.tally.specs.Rows.{row_frames_test, TestBy}
 use Rattle.notes.specs.Notes.{Notes, Few, NotedBy}
 use Rattle.tally.specs.Steps.{counts_test}
 use Rattle.spacing.proofs.Laws.{no_row_lem, no_place, all_places}
-use Rattle.notes.proofs.Laws.{none_noted, few_noted}
+use Rattle.notes.proofs.Laws.{none_noted, is_order, no_order, few_noted}
 use Rattle.tally.proofs.Told.{rows_told, all_apart}
 use borrow.Author.Rules.{rules}
+use Rattle.tally.proofs.rows.order.Goals.{then-eq-via-then-eq, then-eq-via-else-eq+then-not-counts_ok, then-p-gt-ROWS-via-then-p-gt-ROWS, then-p-gt-ROWS-via-else-p-gt-ROWS+then-p-gt-CLASS_PLACES, then-p-gt-ROWS-via-else-p-gt-ROWS+else-p-gt-CLASS_PLACES+then-p-gt-CLASS_PLACES-2}
 use Rattle.tally.proofs.rows.order.Goals as goal
 
-module _ (w : Wire) (a b : Queue) (t : Table) (ofa ofb : Lane) (last : List Last) (now : ℕ) where
+module _ (w : Wire) (a b : Queue class_places) (t : Table) (ofa ofb : Lane) (last : List (Option ℕ)) (now : ℕ) where
   -- all that is asked of the rows' frames
   abbrev asked : Bool
   asked = row_frames_test w a b t (limits_by ofa ofb t.rows) last now
@@ -66,30 +66,30 @@ module _ (w : Wire) (a b : Queue) (t : Table) (ofa ofb : Lane) (last : List Last
       counted Rising n e h = by_rows n.0 n.1 ∙ rw (holds e h, all_apart t long few (in_record w a b) n.2) refl
       counted Mixed n e h = by_rows n.0 n.1 ∙ rw (holds e h, all_places t a b few of-a of_b) refl
 
-pub returns-then-t-gt-ROWS : goal.returns-then-t-gt-ROWS
-returns-then-t-gt-ROWS c = no-places _ _ _ _ _ _ _ _ (no_row_lem _ _ _ c.if-t-gt-ROWS.true)
-
-pub returns-then-a-gt-CLASS_PLACES : goal.returns-then-a-gt-CLASS_PLACES
-returns-then-a-gt-CLASS_PLACES c = no-places _ _ _ _ _ _ _ _ (no_place _ _ _ A c.if-a-gt-CLASS_PLACES.true)
-
-pub returns-then-b-gt-CLASS_PLACES : goal.returns-then-b-gt-CLASS_PLACES
-returns-then-b-gt-CLASS_PLACES c = no-places _ _ _ _ _ _ _ _ (no_place _ _ _ B c.if-b-gt-CLASS_PLACES.true)
+pub returns-then-p-gt-ROWS : goal.returns-then-p-gt-ROWS
+returns-then-p-gt-ROWS c =
+    let lost : in_places c.args.p.now.table c.args.p.now.a c.args.p.now.b ≡ false =
+    elim c.then-p-gt-ROWS.branch [
+      | then-p-gt-ROWS-via-then-p-gt-ROWS w ↦ no_row_lem c.args.p.now.table c.args.p.now.a c.args.p.now.b w.if-p-gt-ROWS.true
+      | then-p-gt-ROWS-via-else-p-gt-ROWS+then-p-gt-CLASS_PLACES w ↦ no_place c.args.p.now.table c.args.p.now.a c.args.p.now.b A w.if-p-gt-CLASS_PLACES.true
+      | then-p-gt-ROWS-via-else-p-gt-ROWS+else-p-gt-CLASS_PLACES+then-p-gt-CLASS_PLACES-2 w ↦ no_place c.args.p.now.table c.args.p.now.a c.args.p.now.b B w.if-p-gt-CLASS_PLACES-2.true
+    ] in
+    no-places c.args.p.now.wire c.args.p.now.a c.args.p.now.b c.args.p.now.table c.args.lanes.a c.args.lanes.b c.args.p.now.last c.args.p.now.clock lost
 
 pub note_all-found-requires : goal.note_all-found-requires
 note_all-found-requires c = record { notes = none_noted; count_le_class_places = search rules }
 
-pub returns-in-Broken : goal.returns-in-Broken
-returns-in-Broken c =
-    no_frame_lem c.args.w c.args.a c.args.b c.args.t c.args.ofa c.args.ofb c.args.last c.args.clock c.if-t-gt-ROWS.false c.if-a-gt-CLASS_PLACES.false c.if-b-gt-CLASS_PLACES.false _ _ c.in-Broken.is c.note_all-found.ensures
-
 pub counts_ok-requires : goal.counts_ok-requires
 counts_ok-requires c =
-    record { count_le_most_rows = c.if-t-gt-ROWS.false; few = noted-few c.args.w c.args.a c.args.b c.args.t c.args.ofa c.args.ofb c.args.last c.args.clock c.if-t-gt-ROWS.false c.if-a-gt-CLASS_PLACES.false c.if-b-gt-CLASS_PLACES.false _ _ c.note_all-found.result c.in_default.not-Broken c.note_all-found.ensures }
+    record { count_le_most_rows = c.if-p-gt-ROWS.false; few = noted-few c.args.p.now.wire c.args.p.now.a c.args.p.now.b c.args.p.now.table c.args.lanes.a c.args.lanes.b c.args.p.now.last c.args.p.now.clock c.if-p-gt-ROWS.false c.if-p-gt-CLASS_PLACES.false c.if-p-gt-CLASS_PLACES-2.false _ _ c.note_all-found.result (no_order _ Broken c.eq.ensures c.if-eq.false) c.note_all-found.ensures }
 
-pub returns-then-not-counts_ok : goal.returns-then-not-counts_ok
-returns-then-not-counts_ok c =
-    miscounted c.args.w c.args.a c.args.b c.args.t c.args.ofa c.args.ofb c.args.last c.args.clock c.if-t-gt-ROWS.false c.if-a-gt-CLASS_PLACES.false c.if-b-gt-CLASS_PLACES.false _ _ (table.places c.args.t _ c.well_formed.1.1.1.0) c.note_all-found.result c.note_all-found.ensures c.counts_ok.ensures (ap not c.if-not-counts_ok.true)
+pub returns-then-eq : goal.returns-then-eq
+returns-then-eq c =
+    elim c.then-eq.branch [
+      | then-eq-via-then-eq w ↦ no_frame_lem c.args.p.now.wire c.args.p.now.a c.args.p.now.b c.args.p.now.table c.args.lanes.a c.args.lanes.b c.args.p.now.last c.args.p.now.clock c.if-p-gt-ROWS.false c.if-p-gt-CLASS_PLACES.false c.if-p-gt-CLASS_PLACES-2.false _ _ (is_order _ Broken c.eq.ensures w.if-eq.true) c.note_all-found.ensures
+      | then-eq-via-else-eq+then-not-counts_ok w ↦ miscounted c.args.p.now.wire c.args.p.now.a c.args.p.now.b c.args.p.now.table c.args.lanes.a c.args.lanes.b c.args.p.now.last c.args.p.now.clock c.if-p-gt-ROWS.false c.if-p-gt-CLASS_PLACES.false c.if-p-gt-CLASS_PLACES-2.false _ _ w.counts_ok.ensures.places c.note_all-found.result c.note_all-found.ensures w.counts_ok.ensures.counted (ap not w.if-not-counts_ok.true)
+    ]
 
 pub returns : goal.returns
 returns c =
-    counted c.args.w c.args.a c.args.b c.args.t c.args.ofa c.args.ofb c.args.last c.args.clock c.if-t-gt-ROWS.false c.if-a-gt-CLASS_PLACES.false c.if-b-gt-CLASS_PLACES.false _ _ (table.places c.args.t _ c.well_formed.1.1.1.0) c.note_all-found.result c.note_all-found.ensures c.counts_ok.ensures (ap not c.if-not-counts_ok.false)
+    counted c.args.p.now.wire c.args.p.now.a c.args.p.now.b c.args.p.now.table c.args.lanes.a c.args.lanes.b c.args.p.now.last c.args.p.now.clock c.if-p-gt-ROWS.false c.if-p-gt-CLASS_PLACES.false c.if-p-gt-CLASS_PLACES-2.false _ _ c.counts_ok.ensures.places c.note_all-found.result c.note_all-found.ensures c.counts_ok.ensures.counted (ap not c.if-not-counts_ok.false)

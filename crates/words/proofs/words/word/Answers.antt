@@ -1,11 +1,11 @@
--- `words::words::word` meets its contract: where the last byte is there, both halves are.
-use mathlib.Core.Path.{sym}
-use native.Mathlib.Omega.{arith}
-use Rattle.words.proofs.Fitting.{none_there, word_inside}
+-- `words::words::word` meets its contract: where the last byte is there, the eight bytes from the word's place on are.
+use Rattle.words.proofs.Bytes.{read_whole, read_none}
 use Rattle.words.proofs.words.word.Goals as goal
 
-pub returns-then-s-k : goal.returns-then-s-k
-returns-then-s-k c = none_there c.args.s.now c.args.k (omega arith)
+pub returns-in-Some : goal.returns-in-Some
+returns-in-Some c =
+    let chunk = c.in-Some.ensures.cases in
+    read_whole c.args.s.now c.args.k c.min-at.result c.min-at.ensures c.from_le_bytes.result chunk.enough chunk.same c.from_le_bytes.ensures
 
-pub returns : goal.returns
-returns c = rw (c.half.ensures.value, c.half-2.ensures.value) (sym (word_inside c.args.s.now c.args.k (omega arith)))
+pub returns-in-None : goal.returns-in-None
+returns-in-None c = read_none c.args.s.now c.args.k c.min-at.result c.min-at.ensures c.in-None.ensures.cases
