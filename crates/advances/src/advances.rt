@@ -15,6 +15,7 @@ use record::check::is_sound;
 
 // What an advance by n byte-times comes to; `whole` is what the record check says (told otherwise, what it comes to is free). The first check that fails decides: broken record, more
 // than 65,535, past the last clock. Else byte-times pass until a frame is reported or n have passed.
+// `whole` stays a parameter beside the port: a type that held that it is what the record check says would ask more of callers, each of which may tell otherwise.
 pub fn judge(p: Port, whole: bool, n: u64) -> Result<Effect, Denial>
     ensures { whole ≡ sound (view p) → Judges p (advance n) result }
 {

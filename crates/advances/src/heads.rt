@@ -5,7 +5,7 @@ ghost use Rattle.bytetime.specs.Ports.{head_of};
 
 use machine::{Frame, NO_MARK, Queue};
 
-// What stands for a frame where there is none.
+// What stands for a frame where there is none. (No Option: that frame is the definitions' own, `head_of` and `frame_of`.)
 pub fn no_frame() -> Frame
     ensures { result ≡ no_frame }
 {

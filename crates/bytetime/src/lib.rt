@@ -5,7 +5,7 @@ mod credit;
 pub mod run;
 mod start;
 
-// Whose frame is on the wire.
+// Whose frame is on the wire. (Four cases and no Option: the definitions of byte-times go by these, `sender_by`.)
 #[derive(Clone, Copy, PartialEq, Eq)]
 pub enum Sender {
     Nobody,
@@ -15,7 +15,7 @@ pub enum Sender {
 }
 
 // What byte-times change: the credits, the bytes left of the frame on the wire and whose it is; whether it left its queue in these byte-times; which queues
-// have a frame waiting.
+// have a frame waiting. (`moved` stays a flag, of which `run_hot` speaks: no value stands beside it.)
 #[derive(Clone, Copy)]
 pub struct Hot {
     pub credita: i64,
@@ -40,7 +40,7 @@ pub struct Fixed {
     pub moreb: bool,
 }
 
-// What byte-times leave: the numbers, how many have passed, and whether a frame was reported ended in the last of them.
+// What byte-times leave: the numbers, how many have passed, and whether a frame was reported ended in the last of them. (`ended` stays a flag, of which `run_hot` speaks: no value stands beside it.)
 #[derive(Clone, Copy)]
 pub struct Ran {
     pub hot: Hot,

@@ -17,7 +17,7 @@ use Rattle.rowbytes.specs.Row.{row_at, row_fits}
 use Rattle.rowbytes.proofs.Laws.{row_wide, row_words_lem, row_back, row_fits_lem, row_same, row_small}
 use Rattle.callbytes.specs.declared.Asked.{Asked}
 use Rattle.callbytes.specs.declared.Asked.TheVariants.{Offer, OfferBest, Advance, Join, Leave}
-use Rattle.callbytes.specs.Calls.{call_width, row_start, used_words, call_words, CallFits, named_by, named, call_of, call_by, used_by, zeros, zeros_from}
+use Rattle.callbytes.specs.Calls.{call_width, row_start, used_words, call_words, CallFits, call_by, named, call_of, call_or_none, used_by, zeros, zeros_from}
 use Rattle.callbytes.proofs.Named.{offer_named, best_named, advance_named, join_named, leave_named}
 
 -- ---- a call has 9 words, and they are words if it fits
@@ -109,12 +109,12 @@ module _ (s : List ℕ) where
   join_same number k e false q a r = cc
 
   -- no kind above 4
-  none_above : (n : ℕ) → named_by (suc (suc (suc (suc (suc n))))) s ≡ None
+  none_above : (n : ℕ) → call_by (suc (suc (suc (suc (suc n))))) s ≡ None
   none_above n =
       let kind = suc (suc (suc (suc (suc n)))) in
       rw (ne_eqb kind 0 (λ e. omega arith), ne_eqb kind 1 (λ e. omega arith), ne_eqb kind 2 (λ e. omega arith), ne_eqb kind 3 (λ e. omega arith), ne_eqb kind 4 (λ e. omega arith)) refl
 
-  kind_same : (kind : ℕ) → word_at s 0 ≡ kind → (a : Asked) → named_by kind s ≡ Some a → Held s 0 (used_words (call_of a))
+  kind_same : (kind : ℕ) → word_at s 0 ≡ kind → (a : Asked) → call_by kind s ≡ Some a → Held s 0 (used_words (call_of a))
   kind_same zero k a e = let same : Offer (word_at s 1) (word_at s 2) ≡ a = cc in rw (← same) (k, (refl, (refl, tt)))
   kind_same (suc zero) k a e = let same : OfferBest (word_at s 1) ≡ a = cc in rw (← same) (k, (refl, tt))
   kind_same (suc (suc zero)) k a e = let same : Advance (word_at s 1) ≡ a = cc in rw (← same) (k, (refl, tt))
@@ -130,11 +130,11 @@ module _ (s : List ℕ) where
 
   -- ---- and it fits
   module _ (b : Bytes s) where
-    join_small : (number : ℕ) → Word number → (b : Bool) → CallFits (call_by (cond b (Some (Join number (row_at s row_start))) None))
+    join_small : (number : ℕ) → Word number → (b : Bool) → CallFits (call_or_none (cond b (Some (Join number (row_at s row_start))) None))
     join_small number h true = (h, row_small s row_start)
     join_small number h false = omega arith
 
-    kind_small : (kind : ℕ) → CallFits (call_by (named_by kind s))
+    kind_small : (kind : ℕ) → CallFits (call_or_none (call_by kind s))
     kind_small zero = (word_small s b 1, word_small s b 2)
     kind_small (suc zero) = word_small s b 1
     kind_small (suc (suc zero)) = word_small s b 1

@@ -16,7 +16,7 @@ use Rattle.machine.proofs.Within.{DenialWithin, OfferWithin, AdvanceWithin, Answ
 use Rattle.words.specs.Words.{Every, Word, flat, word_bytes, word_at}
 use Rattle.words.proofs.Laws.{bytes_length, held_whole, whole_held}
 use Rattle.callbytes.specs.declared.Asked.{Asked}
-use Rattle.callbytes.specs.Calls.{call_size, call_words, call_bytes, named, call_of, used_by, zeros_from, ended, read_call, answer_size, answer_words, answer_bytes, says, no_answer, plain_said, taken_said, passed_said, done_said, said, read_answer}
+use Rattle.callbytes.specs.Calls.{call_size, call_words, call_bytes, CallFits, named, call_of, call_or_none, used_by, zeros_from, ended, read_call, answer_size, answer_words, answer_bytes, says, no_answer, plain_said, taken_said, passed_said, done_said, said, read_answer}
 use Rattle.callbytes.specs.RoundTrip.{ReadingWrittenCalls, ReadCallsFit, WritingReadCalls, ReadingWrittenAnswers, WritingReadAnswers}
 use Rattle.callbytes.proofs.Named.{rest_zero}
 use Rattle.callbytes.proofs.Held.{call_width_lem, call_words_lem, asked_of, asked_call, call_back, call_same, call_small}
@@ -62,7 +62,11 @@ writing_read_calls s a b e =
     whole_held s b ws long (call_same s a w.named w.rest)
 
 pub read_calls_fit : ReadCallsFit
-read_calls_fit s a b e = call_small s b a (whole_lem s a e).named
+read_calls_fit s b = go (read_call s) refl
+  where
+    go : (o : Option Asked) → read_call s ≡ o → CallFits (call_or_none o)
+    go (Some a) e = call_small s b a (whole_lem s a e).named
+    go None e = omega arith
 
 -- ---- answers: reading what was written
 read_answer_lem : (c : Call) (n second source size instant : ℕ) → Every Word (n ∷ second ∷ source ∷ size ∷ instant ∷ []) → read_answer c (flat word_bytes (n ∷ second ∷ source ∷ size ∷ instant ∷ [])) ≡ said c n second source size instant

@@ -49,13 +49,13 @@ CallFits (leave number) = Word number
 abbrev pub join_by : List ℕ → ℕ → Option Asked
 join_by s number = cond (row_fits s row_start) (Some (Join number (row_at s row_start))) None
 
-abbrev pub named_by : (kind : ℕ) → List ℕ → Option Asked
-named_by kind s =
+abbrev pub call_by : (kind : ℕ) → List ℕ → Option Asked
+call_by kind s =
     cond (eqb kind 0) (Some (Offer (word_at s 1) (word_at s 2)))
     (cond (eqb kind 1) (Some (OfferBest (word_at s 1))) (cond (eqb kind 2) (Some (Advance (word_at s 1))) (cond (eqb kind 3) (join_by s (word_at s 1)) (cond (eqb kind 4) (Some (Leave (word_at s 1))) None))))
 
 unfoldable pub named : List ℕ → Option Asked
-named s = named_by (word_at s 0) s
+named s = call_by (word_at s 0) s
 
 abbrev pub call_of : Asked → Call
 call_of (Offer row payload) = offer row payload
@@ -65,9 +65,9 @@ call_of (Join number r) = join number r
 call_of (Leave number) = leave number
 
 -- An advance by 0 stands for a call that can't be read. The calls that C links refuse such a call, and make none.
-abbrev pub call_by : Option Asked → Call
-call_by (Some a) = call_of a
-call_by None = advance 0
+abbrev pub call_or_none : Option Asked → Call
+call_or_none (Some a) = call_of a
+call_or_none None = advance 0
 
 -- How many words a call uses.
 abbrev pub used_by : Asked → ℕ

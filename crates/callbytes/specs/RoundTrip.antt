@@ -4,7 +4,7 @@ use Rattle.machine.specs.State.{State}
 use Rattle.machine.specs.Calls.{Call, Answer, answer}
 use Rattle.words.specs.Words.{Bytes}
 use Rattle.callbytes.specs.declared.Asked.{Asked}
-use Rattle.callbytes.specs.Calls.{call_bytes, CallFits, read_call, call_of, answer_bytes, says, read_answer}
+use Rattle.callbytes.specs.Calls.{call_bytes, CallFits, read_call, call_of, call_or_none, answer_bytes, says, read_answer}
 
 -- What was read is the call again.
 abbrev pub ReadBack : Call → Option Asked → Type 0
@@ -17,7 +17,7 @@ ReadingWrittenCalls = (c : Call) → CallFits c → ReadBack c (read_call (call_
 
 -- The call that bytes name fits: so the calls that bytes hold are exactly those that fit.
 abbrev pub ReadCallsFit : Type 0
-ReadCallsFit = (s : List ℕ) (a : Asked) → Bytes s → read_call s ≡ Some a → CallFits (call_of a)
+ReadCallsFit = (s : List ℕ) → Bytes s → CallFits (call_or_none (read_call s))
 
 -- Writing what was read gives the bytes, to the last: so for every list of bytes that can be read.
 abbrev pub WritingReadCalls : Type 0

@@ -14,6 +14,7 @@ pub const ANSWER_SIZE: usize = 40;
 
 // The words of an answer at the front of a buffer; the bytes behind them keep their values. A buffer that is too short keeps every byte. The second
 // word is the place of a refusal, else the byte-times passed.
+// (The five words are an answer's encoding at the C interface; what an answer says is `write_reply`'s.)
 pub fn put_answer(out: &mut [u8], number: u64, second: u64, source: u64, size: u64, taken: u64)
     ensures { out.new ≡ fronted (flat word_bytes (number ∷ second ∷ source ∷ size ∷ taken ∷ [])) out.old }
 {

@@ -25,6 +25,7 @@ pub fn slopes_ok(h: Header, a: Figures, b: Figures) -> bool
         && u64::from(h.idlea) + u64::from(h.idleb) <= u64::from(MOST_SLOPE)
 }
 
+// Slopes and sizes stay requires, here and for class B: the promise is for any such numbers, and a type would ask more.
 // Class A waits for the largest frame of B or of best effort.
 pub fn lane_a(h: Header, a: Figures, b: Figures) -> Lane
     requires idlea_le_most_slope { h.idlea ≤ most_slope }

@@ -23,9 +23,9 @@ pub struct Lane {
     pub blocking: u64,
 }
 
-// The numbers of both classes.
+// What each of the two classes has.
 #[derive(Clone, Copy)]
-pub struct BothLanes {
-    pub a: Lane,
-    pub b: Lane,
+pub struct Both<T> {
+    pub a: T,
+    pub b: T,
 }

@@ -6,7 +6,7 @@ ghost use Rattle.figures.specs.Parts.{part, until_report};
 ghost use Rattle.figures.specs.Lanes.{pick_lane, residence_with, modest, residence_by};
 ghost use Rattle.figures.specs.Steps.{Modest, Ready, time_by};
 
-use crate::{BothLanes, Lane};
+use crate::{Both, Lane};
 use table::quotient::ceil_div;
 use table::ranges::MOST_SLOPE;
 use table::rows::is_there;
@@ -16,7 +16,7 @@ use table::{Class, Row};
 // No number of a class that an accepted table has is as large.
 const MODEST: u64 = 1_099_511_627_776;
 
-fn lane(class: Class, lanes: BothLanes) -> Lane
+fn lane(class: Class, lanes: Both<Lane>) -> Lane
     ensures { result ≡ pick_lane class lanes.a lanes.b }
 {
     match class {
@@ -37,14 +37,14 @@ fn row_residence(c: u64, l: Lane) -> u64
 }
 
 // The residence of the row at a number, 0 at an empty one.
-pub fn row_time(row: Row, a: Lane, b: Lane) -> u64
-    requires { Ready row a b }
-    ensures { result ≡ time_by a b row }
+pub fn row_time(row: Row, lanes: Both<Lane>) -> u64
+    requires { Ready row lanes.a lanes.b }
+    ensures { result ≡ time_by lanes.a lanes.b row }
 {
     if !is_there(row) {
         return 0;
     }
-    row_residence(size(row), lane(row.class, BothLanes { a, b }))
+    row_residence(size(row), lane(row.class, lanes))
 }
 
 // What a row adds to the frames that a class may have in the port: its residence divided by its period, rounded up. That is 1 where the residence is within the period.
@@ -78,7 +78,7 @@ fn is_modest(l: Lane) -> bool
 
 // A row's residence, by the classes of an accepted table that has it; 0 by numbers that are not small, or by a sum below the row's wire size.
 #[tactic(auto, unfolding(crate::specs::Lanes::residence_by))]
-pub fn residence(row: Row, lanes: BothLanes) -> u64
+pub fn residence(row: Row, lanes: Both<Lane>) -> u64
     ensures { result ≡ residence_by lanes.a lanes.b row }
 {
     let l = lane(row.class, lanes);

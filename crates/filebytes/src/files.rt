@@ -38,6 +38,7 @@ fn file_bounds(file: &[u8]) -> Result<[u64; ROWS], Unopened>
 }
 
 // The 32 bounds of a table file, a word each. At a refusal no byte is written.
+// (102, 103 and 104 are the C interface's own numbers.)
 pub fn bounds(file: &[u8], out: &mut [u8]) -> u64
     ensures { BoundsWritten file.now out.old out.new result }
 {
@@ -54,6 +55,7 @@ pub fn bounds(file: &[u8], out: &mut [u8]) -> u64
 }
 
 // The edition of a number, if there is one.
+// (No plainer as `TryFrom<u64>`: the type is tablefile's, its numbers 1 and 2 are the C interface's alone, and a failure has nothing to say.)
 fn edition_by(number: u64) -> Option<Edition>
     ensures { MatchOption result (within 1 2 number ≡ false)
         (λ e. (within 1 2 number ≡ true) × (e ≡ edition_by number)) }

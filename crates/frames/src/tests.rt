@@ -5,8 +5,8 @@ ghost use Rattle.machine.specs.State.{waiting};
 ghost use Rattle.machine.specs.Record.{all_of, on_sending};
 ghost use Rattle.frames.specs.Tests.{limits_by, row_test, best_test, sending_test};
 
-use figures::BothLanes;
 use figures::residences::residence;
+use figures::{Both, Lane};
 use machine::{BEST_MARK, BEST_PLACES, Frame, Queue, Wire};
 use table::rows::is_there;
 use table::wire::{LEAST_SIZE, size, wire_size};
@@ -42,7 +42,7 @@ pub fn best_ok(q: Queue<BEST_PLACES>, most: u64, clock: u64) -> bool
 }
 
 // The frame on the wire: one of a number in use is judged by its row, with the row's class, any other as a best-effort frame.
-fn sending_ok(f: Frame, left: u32, t: Table, lanes: BothLanes, clock: u64) -> bool
+fn sending_ok(f: Frame, left: u32, t: Table, lanes: Both<Lane>, clock: u64) -> bool
     ensures { result ≡ sending_test (contents t) (limits_by lanes.a lanes.b t.rows) clock f left }
 {
     if left < 1 || f.size < left {
@@ -59,7 +59,7 @@ fn sending_ok(f: Frame, left: u32, t: Table, lanes: BothLanes, clock: u64) -> bo
 }
 
 // What is on the wire.
-pub fn wire_ok(w: Wire, t: Table, lanes: BothLanes, clock: u64) -> bool
+pub fn wire_ok(w: Wire, t: Table, lanes: Both<Lane>, clock: u64) -> bool
     ensures { result ≡ on_sending (sending_test (contents t) (limits_by lanes.a lanes.b t.rows) clock) w }
 {
     match w {

@@ -9,8 +9,8 @@ ghost use Rattle.notes.specs.Notes.{newests, counts, in_turn, Notes, Few, NotedB
 ghost use Rattle.notes.specs.Steps.{QueueNoted};
 
 use crate::{Noted, Order};
-use figures::BothLanes;
 use figures::residences::residence;
+use figures::{Both, Lane};
 use frames::tests::row_frame_ok;
 use machine::{Frame, Port, Wire};
 use table::rows::is_there;
@@ -62,7 +62,7 @@ fn note_queue(
     class: Class,
     frames: &[Frame],
     t: Table,
-    lanes: BothLanes,
+    lanes: Both<Lane>,
     clock: u64,
 ) -> Order
     requires few { Few 65 (counts noted.old) }
@@ -93,7 +93,7 @@ fn note_queue(
 }
 
 // The frame on the wire, and then those that wait, A's and B's.
-pub fn note_all(noted: &mut [Noted; ROWS], p: &Port, lanes: BothLanes) -> Order
+pub fn note_all(noted: &mut [Noted; ROWS], p: &Port, lanes: Both<Lane>) -> Order
     requires notes { Notes [] (newests noted.old) (counts noted.old) }
     requires count_le_class_places { (p.now.a.count ≤ class_places) × (p.now.b.count ≤ class_places) }
     ensures { NotedBy p.now.wire p.now.a p.now.b p.now.table lanes.a lanes.b p.now.clock (newests noted.new) (counts noted.new) result }

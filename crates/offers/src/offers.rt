@@ -52,6 +52,7 @@ fn joined(class: Class, f: Frame) -> Change
 
 // What an offer to a row comes to; `whole` is what the record check says (told otherwise, what it comes to is free). The first check that fails decides: broken record, no such row,
 // payload, early.
+// `whole` stays a parameter beside the port: a type that held that it is what the record check says would ask more of callers, each of which may tell otherwise.
 pub fn judge(p: Port, whole: bool, row: u64, payload: u64) -> Result<Effect, Denial>
     ensures { whole ≡ sound (view p) → Judges p (offer row payload) result }
 {
@@ -109,7 +110,7 @@ pub fn judge_best(port: Port, whole: bool, payload: u64) -> Result<Effect, Denia
     Ok(taken(port, Change::JoinedBest(f)))
 }
 
-// What is judged of an offer carried out; a refusal hands the port back. (As patches has it: with the way to carry out as a parameter one for both would be no plainer.)
+// What is judged of an offer carried out; a refusal hands the port back. (One with `patched` of patches would take the effect's type and the way to carry it out, `E` and `F: Fn(Port, E) -> Port`, and its clause would quote `F.post`: no plainer.)
 fn carried(p: Port, judged: Result<Effect, Denial>) -> After<Result<(), Denial>>
     ensures { (c : Call) (o : Outcome) → answer (view p) c ≡ answer_by o calls.taken → Judges p c judged → Gives p c (offer_answer result.answer) result.port }
 {

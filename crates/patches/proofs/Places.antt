@@ -1,11 +1,13 @@
 -- A table record's places where a row joins or leaves.
-use Prim.Native.Nat.{ℕ, zero, suc, ◌+◌, ◌-◌, ◌≤◌, ◌<◌, max}
+use Prim.Native.Nat.{ℕ, zero, suc, ◌+◌, ◌-◌, ◌≤◌, ◌<◌, max, min}
 use mathlib.Core.Bool.{Bool, true, false}
 use mathlib.Core.List.{List, [], ◌∷◌, ◌++◌}
 use mathlib.Core.Path.{◌≡◌, refl, sym, ◌∙◌, ap}
 use native.Mathlib.Omega.{arith}
 use lib.Dec.{ltb, eqb}
-use lib.ListN.{length, get_or, set, take, length-set, length-take}
+use lib.ListN.{length, get_or, set, take, drop, replicate, length-set, length-take, length-drop, length-replicate}
+use borrow.Rule.Slice.PartMut.{mid_of, post_of, put_mid, same_len_mid}
+use Rattle.std.proofs.lemmas.List.{get_or_append_left, get_or-append_right, get_or-drop, get_or-replicate, get_or-take}
 use lib.Seq.{get_or-set_same, get_or-set_other, take-suc, take-take}
 use borrow.Author.Tests.{lt-ltb, ltb-true, ltb-false, eqb-true, eqb-false}
 use Rattle.table.specs.declared.Row.{Row}
@@ -29,25 +31,49 @@ pub record Cleared (t u : Table) (i : ℕ) : Type 0 where
   pub old : (j : ℕ) → j < t.count → get_or u.rows j no_row ≡ get_or t.rows j no_row
   pub none : (j : ℕ) → t.count ≤ j → j < i → get_or u.rows j no_row ≡ no_row
 
-pub cleared_none : (t : Table) → length t.rows ≡ 32 → Cleared t t t.count
-cleared_none t long = record { long = long; header = refl; count = refl; old = λ j h. refl; none = λ j g h. absurd (omega arith) }
+-- places from the count up to k that are filled with rows of zeros
+module _ (t : Table) (k m : ℕ) {ys : List Row} {r : Row} (long : length t.rows ≡ 32) (least : k < most_rows) (from : m ≡ min t.count k) (filled : ys ≡ replicate (length (mid_of m (k - m) t.rows)) r) (zeros : r ≡ no_row) where
+  part : length (mid_of m (k - m) t.rows) ≡ k - m
+  part = rw (length-take (k - m) (drop m t.rows), length-drop m t.rows, long) (omega arith)
 
-abbrev pub placed : Table → ℕ → Row → Table
-placed u i r = record { header = u.header; count = u.count; rows = set u.rows i r }
+  fill : length ys ≡ k - m
+  fill = rw (filled, length-replicate) part
 
-pub cleared_next : (t u : Table) (i : ℕ) {r : Row} → Cleared t u i → t.count ≤ i → i < 32 → r ≡ no_row → Cleared t (placed u i r) (i + 1)
-cleared_next t u i {r} c from h e =
-    record {
-      long = length-set u.rows i r ∙ c.long;
-      header = c.header;
-      count = c.count;
-      old = λ j g. get_or-set_other u.rows i j r no_row (λ z. omega arith) ∙ c.old j g;
-      none = λ j g l. by j g l (eqb j i) refl;
-    }
-  where
-    by : (j : ℕ) → t.count ≤ j → j < i + 1 → (b : Bool) → eqb j i ≡ b → get_or (set u.rows i r) j no_row ≡ no_row
-    by j g l true q = rw (eqb-true j i q) (get_or-set_same u.rows i r no_row (rw c.long h) ∙ e)
-    by j g l false q = get_or-set_other u.rows i j r no_row (eqb-false j i q) ∙ c.none j g (omega (arith, eqb-false j i q))
+  front : length (take m t.rows) ≡ m
+  front = rw (length-take m t.rows, long) (omega arith)
+
+  abbrev pub filled_with : Table
+  filled_with = record { header = t.header; count = t.count; rows = put_mid m (k - m) t.rows ys }
+
+  rest : (j : ℕ) → m ≤ j → get_or filled_with.rows j no_row ≡ get_or (ys ++ post_of m (k - m) t.rows) (j - m) no_row
+  rest j h = get_or-append_right (take m t.rows) _ m j no_row front h
+
+  pub cleared_filled : Cleared t filled_with k
+  cleared_filled =
+      record {
+        long = same_len_mid m (k - m) t.rows ys (fill ∙ sym part) ∙ long;
+        header = refl;
+        count = refl;
+        old = λ j h. by j h (ltb j m) refl;
+        none = λ j g l.
+            rest j (omega arith)
+            ∙ get_or_append_left ys (post_of m (k - m) t.rows) no_row (j - m) (omega (arith, fill))
+            ∙ rw filled (get_or-replicate _ (j - m) r no_row (omega (arith, part)))
+            ∙ zeros;
+      }
+    where
+      by : (j : ℕ) → j < t.count → (b : Bool) → ltb j m ≡ b → get_or filled_with.rows j no_row ≡ get_or t.rows j no_row
+      by j h true q =
+          let l : j < m = ltb-true j m q in
+          get_or_append_left (take m t.rows) _ no_row j (omega (arith, front)) ∙ get_or-take m t.rows j no_row l
+      by j h false q =
+          let g : m ≤ j = ltb-false j m q in
+          let z : m + (k - m + (j - m - (k - m))) ≡ j = omega arith in
+          rest j g
+          ∙ get_or-append_right ys (post_of m (k - m) t.rows) (k - m) (j - m) no_row fill (omega arith)
+          ∙ get_or-drop (k - m) (drop m t.rows) (j - m - (k - m)) no_row
+          ∙ get_or-drop m t.rows (k - m + (j - m - (k - m))) no_row
+          ∙ rw z refl
 
 -- the row at its number, and the count above it
 abbrev counted : Table → ℕ → ℕ → Row → Table
@@ -100,6 +126,9 @@ take_set zero k rs r = refl
 take_set (suc n) k [] r = refl
 take_set (suc n) zero (x ∷ rs) r = refl
 take_set (suc n) (suc k) (x ∷ rs) r = ap (λ (l : List Row). x ∷ l) (take_set n k rs r)
+
+abbrev placed : Table → ℕ → Row → Table
+placed u i r = record { header = u.header; count = u.count; rows = set u.rows i r }
 
 pub row_left : (t : Table) (k n : ℕ) (r : Row) → length t.rows ≡ 32 → t.count ≤ most_rows → r ≡ no_row → n ≡ top_of t.count (placed t k r) → contents (record { header = t.header; count = n; rows = set t.rows k r }) ≡ without_row k (contents t)
 unfolding without_row rows_without

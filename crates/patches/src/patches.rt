@@ -15,6 +15,7 @@ use table::{ROWS, Refusal, Row};
 
 // What a join comes to; `whole` is what the record check says (told otherwise, what it comes to is free). The first check that fails decides: broken record, a number in use or above
 // 31, the row, then the table with the row. The number has no last instant, and the bounds are worked out afresh.
+// `whole` stays a parameter beside the port: a type that held that it is what the record check says would ask more of callers, each of which may tell otherwise.
 pub fn judge_join(p: Port, whole: bool, number: u64, row: Row) -> Result<Patch, Denial>
     ensures { whole ≡ sound (view p) → Patches p (calls.join number row) result }
 {
@@ -107,7 +108,7 @@ pub fn carried(p: Port, x: Patch) -> Port
     }
 }
 
-// What is judged of a join or a leave carried out; a refusal hands the port back.
+// What is judged of a join or a leave carried out; a refusal hands the port back. (One with `carried` of offers would take the patch's type and the way to carry it out, `E` and `F: Fn(Port, E) -> Port`, and its clause would quote `F.post`: no plainer.)
 fn patched(p: Port, judged: Result<Patch, Denial>) -> After<Result<(), Denial>>
     ensures { (c : Call) → Patches p c judged → Gives p c (offer_answer result.answer) result.port }
 {

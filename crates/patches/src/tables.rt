@@ -25,15 +25,13 @@ pub fn with_row(t: Table, k: usize, row: Row) -> Table
     ensures { contents result ≡ with_row k row (contents t) }
 {
     let mut u = t;
-    for i in t.count..k {
-        u.rows[i] = no_row();
-    }
+    u.rows[t.count.min(k)..k].fill(no_row());
     u.rows[k] = row;
     u.count = t.count.max(k + 1);
     u
 }
 
-// How many of the first n places there are up to the last row that is there.
+// How many of the first n places there are up to the last row that is there. Stays a loop: for `rposition` no lemma gives a slice's rows from the back, and a place counted in the reversed rows is no plainer.
 fn top(t: Table, n: usize) -> usize
     requires { n ≤ most_rows }
     ensures { result ≡ top_of n t }

@@ -14,7 +14,8 @@ use Rattle.table.specs.declared.Class.TheVariants.{A, B}
 use Rattle.std.specs.Prelude.{Result, Ok, Err, is_err}
 use Rattle.table.specs.declared.Row.{Row}
 use Rattle.table.specs.declared.Refusal.{Refusal}
-use Rattle.figures.specs.declared.BothLanes.{BothLanes}
+use Rattle.figures.specs.declared.Lane.{Lane}
+use Rattle.figures.specs.declared.Both.{Both}
 use Rattle.table.specs.Limits.{D, most_rows, most_slope, most_payload, most_size, least_size, least_period, class_places, left_at_report}
 use Rattle.table.specs.Wire.{ceil_div, wire_size, size_of, period_of, share_of}
 use Rattle.table.specs.Rows.{no_row, is_there, Contents, row_at, InUse}
@@ -131,11 +132,11 @@ accepted_by gaps t e =
     room_of a b B = room_at B t b
 
 -- whatever `classes` answers is what the verdict asked for says
-pub accepted_with : (gaps : Bool) (t : Contents) (r : Result BothLanes Refusal) → is_err r ≡ false → Classed gaps t r → verdict_by gaps t ≡ accepted
+pub accepted_with : (gaps : Bool) (t : Contents) (r : Result (Both Lane) Refusal) → is_err r ≡ false → Classed gaps t r → verdict_by gaps t ≡ accepted
 accepted_with gaps t (Ok l) e h = h.verdict
 accepted_with gaps t (Err r) e h = absurd (false≢true (sym e))
 
-pub refused_by : (gaps : Bool) (t : Contents) (r : Result BothLanes Refusal) → is_err r ≡ true → Classed gaps t r → (x : Refusal) × (verdict_by gaps t ≡ outcome_of (Err x))
+pub refused_by : (gaps : Bool) (t : Contents) (r : Result (Both Lane) Refusal) → is_err r ≡ true → Classed gaps t r → (x : Refusal) × (verdict_by gaps t ≡ outcome_of (Err x))
 refused_by gaps t (Ok l) e h = absurd (false≢true e)
 refused_by gaps t (Err r) e h = (r, h)
 

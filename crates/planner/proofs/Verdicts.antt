@@ -13,7 +13,7 @@ use Rattle.table.specs.Rows.{Contents}
 use Rattle.table.specs.Checks.{accepted, refused, number_of, place_of, unless, passing, unless_row, first}
 use Rattle.table.specs.Ranges.{count_ok, header_ok, ranged}
 use Rattle.figures.specs.declared.Lane.{Lane}
-use Rattle.figures.specs.declared.BothLanes.{BothLanes}
+use Rattle.figures.specs.declared.Both.{Both}
 use Rattle.planner.specs.Opening.{slopes_ok, shares_ok, timely, room_ok, fair_checks, opening, ranged_around, standing, passes_by, ranged_by, verdict_by}
 use Rattle.planner.specs.Plan.{lane_of, Classed, filled_to, bounds_for, BoundsIn}
 use Rattle.planner.specs.Steps.{Passed}
@@ -34,7 +34,7 @@ module _ (gaps : Bool) (t : Contents) where
   refused_right xs r e h = (e, rw e h)
 
   -- the refusal that `?` hands on
-  pub handed_on : (xs : List ℕ) (q : Result BothLanes Refusal) (r : Refusal) {e : Refusal} {ys : List ℕ} → IsErrAnd q (λ y. y ≡ e) → e ≡ r → verdict_by gaps t ≡ refused (number_of r) (place_of r) → ys ≡ filled_to (bounds_for (refused (number_of r) (place_of r)) t) t xs → Classed gaps t q × BoundsIn gaps t xs ys
+  pub handed_on : (xs : List ℕ) (q : Result (Both Lane) Refusal) (r : Refusal) {e : Refusal} {ys : List ℕ} → IsErrAnd q (λ y. y ≡ e) → e ≡ r → verdict_by gaps t ≡ refused (number_of r) (place_of r) → ys ≡ filled_to (bounds_for (refused (number_of r) (place_of r)) t) t xs → Classed gaps t q × BoundsIn gaps t xs ys
   handed_on xs (Ok l) r a f e h = absurd a
   handed_on xs (Err y) r a f e h = rw (a, f) (refused_right xs r e h)
 

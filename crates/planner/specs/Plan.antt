@@ -7,7 +7,7 @@ use Rattle.table.specs.Rows.{Contents}
 use Rattle.table.specs.Checks.{Outcome, accepted, refused, outcome_of}
 use Rattle.table.specs.declared.Refusal.{Refusal}
 use Rattle.figures.specs.declared.Lane.{Lane}
-use Rattle.figures.specs.declared.BothLanes.{BothLanes}
+use Rattle.figures.specs.declared.Both.{Both}
 pub use Rattle.figures.specs.Lanes.{pick_lane, most_modest}
 unfoldable pub use Rattle.figures.specs.Lanes.{modest, residence_by}
 use Rattle.planner.specs.Sums.{idle, largest, total}
@@ -24,12 +24,12 @@ bounds_at accepted t = bounds t
 bounds_at (refused n p) t = replicate most_rows 0
 
 -- The answer of `classes`: a table that the verdict asked for accepts has its classes, and another that verdict's refusal.
-pub record ClassesOf (gaps : Bool) (t : Contents) (l : BothLanes) : Type 0 where
+pub record ClassesOf (gaps : Bool) (t : Contents) (l : Both Lane) : Type 0 where
   pub verdict : verdict_by gaps t ≡ accepted
   pub a : l.a ≡ lane_of A t
   pub b : l.b ≡ lane_of B t
 
-abbrev pub Classed : Bool → Contents → Result BothLanes Refusal → Type 0
+abbrev pub Classed : Bool → Contents → Result (Both Lane) Refusal → Type 0
 Classed gaps t (Ok l) = ClassesOf gaps t l
 Classed gaps t (Err r) = verdict_by gaps t ≡ outcome_of (Err r)
 

@@ -11,9 +11,8 @@ use Rattle.table.specs.Rows.{Contents}
 use Rattle.table.specs.Checks.{accepted, passing}
 use Rattle.figures.specs.declared.Figures.{Figures}
 use Rattle.figures.specs.declared.Lane.{Lane}
+use Rattle.figures.specs.declared.Both.{Both}
 use Rattle.figures.specs.Steps.{Small, Modest, time_by}
-use Rattle.planner.specs.declared.Totals.{Totals}
-use Rattle.planner.specs.declared.FrameCounts.{FrameCounts}
 use Rattle.planner.specs.Sums.{sum_over, max_over, members, largest, total, shares}
 use Rattle.planner.specs.Bound.{until_report}
 use Rattle.planner.specs.Opening.{used_ok, slopes_ok, shares_ok, passes_by, ranged_by}
@@ -28,14 +27,14 @@ abbrev pub figures_in : Class → List Row → Figures
 figures_in c rs = record { members = sum_over c (λ r. 1) rs; largest = max_over c size_of rs; total = sum_over c size_of rs; shares = sum_over c share_of rs }
 
 -- Both classes' figures over rows that are in range, or the first row that is not.
-pub record AllIn (gaps : Bool) (rs : List Row) (s : Totals) : Type 0 where
+pub record AllIn (gaps : Bool) (rs : List Row) (s : Both Figures) : Type 0 where
   pub passed : length rs ≤ passing (passes_by gaps) rs
   pub a : s.a ≡ figures_in A rs
   pub b : s.b ≡ figures_in B rs
   pub small_a : Small most_rows s.a
   pub small_b : Small most_rows s.b
 
-abbrev pub TotalsOf : Bool → List Row → Result Totals Refusal → Type 0
+abbrev pub TotalsOf : Bool → List Row → Result (Both Figures) Refusal → Type 0
 TotalsOf gaps rs (Ok s) = AllIn gaps rs s
 TotalsOf gaps rs (Err r) = (passing (passes_by gaps) rs < length rs) × (r ≡ Value (passing (passes_by gaps) rs))
 
@@ -68,12 +67,12 @@ abbrev pub filled_by : Lane → Lane → List Row → ℕ → List ℕ → List 
 filled_by a b rs n places = map (bound_by a b) (take n rs) ++ drop n places
 
 -- What the classes' frames come to over rows that are in time, or the first row that is late.
-pub record AllTimely (a b : Lane) (rs : List Row) (n : FrameCounts) : Type 0 where
+pub record AllTimely (a b : Lane) (rs : List Row) (n : Both ℕ) : Type 0 where
   pub timely : length rs ≤ passing (timely_by a b) rs
   pub ofa : n.a ≡ sum_over A (most_by a b) rs
   pub ofb : n.b ≡ sum_over B (most_by a b) rs
 
-abbrev pub JudgementOf : Lane → Lane → List Row → Result FrameCounts Refusal → Type 0
+abbrev pub JudgementOf : Lane → Lane → List Row → Result (Both ℕ) Refusal → Type 0
 JudgementOf a b rs (Ok n) = AllTimely a b rs n
 JudgementOf a b rs (Err r) = (passing (timely_by a b) rs < length rs) × (r ≡ Deadline (passing (timely_by a b) rs))
 

@@ -9,26 +9,25 @@ ghost use Rattle.planner.specs.Opening.{ranged_by};
 ghost use Rattle.planner.specs.Plan.{Classed, BoundsIn};
 ghost use Rattle.planner.specs.Steps.{Summed, Passed, Lanes, JudgementOf, timely_by, filled_by};
 
-use crate::FrameCounts;
 use crate::sums::summed;
 use figures::lanes::{lane_a, lane_b, slopes_ok};
 use figures::residences::{bound_of, most_of, row_time};
-use figures::{BothLanes, Figures, Lane};
+use figures::{Both, Figures, Lane};
 use table::ranges::{HEADER_PLACE, header_ok};
 use table::{CLASS_PLACES, Class, ROWS, Refusal, Row, Table};
 
 // The rows' bounds held against their deadlines, and their residences counted against their periods, up to the first row that is late. The bounds come into the places that
 // are lent.
-fn judged(out: &mut [u64; ROWS], rows: &[Row], a: Lane, b: Lane) -> Result<FrameCounts, Refusal>
+fn judged(out: &mut [u64; ROWS], rows: &[Row], lanes: Both<Lane>) -> Result<Both<u64>, Refusal>
     requires few { length rows.now ≤ most_rows }
-    requires ready { Every (λ r. Ready r a b) rows.now }
-    ensures judgement_of { JudgementOf a b rows.now result }
-    ensures bounds { out.new ≡ filled_by a b rows.now (passing (timely_by a b) rows.now) out.old }
+    requires ready { Every (λ r. Ready r lanes.a lanes.b) rows.now }
+    ensures judgement_of { JudgementOf lanes.a lanes.b rows.now result }
+    ensures bounds { out.new ≡ filled_by lanes.a lanes.b rows.now (passing (timely_by lanes.a lanes.b) rows.now) out.old }
 {
     let mut ofa: u64 = 0;
     let mut ofb: u64 = 0;
     for (i, row) in rows.iter().enumerate() {
-        let residence = row_time(*row, a, b);
+        let residence = row_time(*row, lanes);
         let bound = bound_of(residence);
         if u64::from(row.deadline) < bound {
             return Err(Refusal::Deadline(i));
@@ -37,7 +36,7 @@ fn judged(out: &mut [u64; ROWS], rows: &[Row], a: Lane, b: Lane) -> Result<Frame
         ofb += most_of(Class::B, *row, residence);
         out[i] = bound;
     }
-    Ok(FrameCounts { a: ofa, b: ofb })
+    Ok(Both { a: ofa, b: ofb })
 }
 
 // The classes of a table that only a late row or a class with too many frames can still have refused.
@@ -45,14 +44,14 @@ fn timely_classes(
     out: &mut [u64; ROWS],
     t: Table,
     gaps: bool,
-    made: BothLanes,
-) -> Result<BothLanes, Refusal>
+    made: Both<Lane>,
+) -> Result<Both<Lane>, Refusal>
     requires lanes { Lanes (contents t) made.a made.b }
     requires passed { Passed gaps (contents t) }
     ensures classed { Classed gaps (contents t) result }
     ensures bounds { BoundsIn gaps (contents t) out.old out.new }
 {
-    let found = judged(out, &t.rows[..t.count], made.a, made.b)?;
+    let found = judged(out, &t.rows[..t.count], made)?;
     if found.a > CLASS_PLACES as u64 {
         return Err(Refusal::Frames(Class::A));
     }
@@ -67,34 +66,33 @@ fn fair_classes(
     out: &mut [u64; ROWS],
     t: Table,
     gaps: bool,
-    a: Figures,
-    b: Figures,
-) -> Result<BothLanes, Refusal>
-    requires summed { Summed (contents t) a b }
+    sums: Both<Figures>,
+) -> Result<Both<Lane>, Refusal>
+    requires summed { Summed (contents t) sums.a sums.b }
     requires t_value { ranged_by gaps (contents t) ≡ accepted }
     ensures classed { Classed gaps (contents t) result }
     ensures bounds { BoundsIn gaps (contents t) out.old out.new }
 {
     let h = t.header;
-    if !slopes_ok(h, a, b) {
+    if !slopes_ok(h, sums.a, sums.b) {
         return Err(Refusal::Slopes);
     }
-    if u64::from(h.idlea) < a.shares {
+    if u64::from(h.idlea) < sums.a.shares {
         return Err(Refusal::Shares(Class::A));
     }
-    if u64::from(h.idleb) < b.shares {
+    if u64::from(h.idleb) < sums.b.shares {
         return Err(Refusal::Shares(Class::B));
     }
-    let made = BothLanes {
-        a: lane_a(h, a, b),
-        b: lane_b(h, a, b),
+    let made = Both {
+        a: lane_a(h, sums.a, sums.b),
+        b: lane_b(h, sums.a, sums.b),
     };
     timely_classes(out, t, gaps, made)
 }
 
 // An accepted table's classes and its bounds, which come into the places that are lent, or why it is refused, with its empty numbers passed over or not: one pass over the
 // rows for their ranges and the classes' sums, and one for what these make of each row.
-pub fn classes(out: &mut [u64; ROWS], t: Table, gaps: bool) -> Result<BothLanes, Refusal>
+pub fn classes(out: &mut [u64; ROWS], t: Table, gaps: bool) -> Result<Both<Lane>, Refusal>
     ensures classed { Classed gaps (contents t) result }
     ensures bounds { BoundsIn gaps (contents t) out.old out.new }
 {
@@ -106,5 +104,5 @@ pub fn classes(out: &mut [u64; ROWS], t: Table, gaps: bool) -> Result<BothLanes,
         return Err(Refusal::Value(HEADER_PLACE));
     }
     let sums = summed(&t.rows[..n], gaps)?;
-    fair_classes(out, t, gaps, sums.a, sums.b)
+    fair_classes(out, t, gaps, sums)
 }

@@ -11,22 +11,7 @@ pub mod acceptance;
 mod sums;
 
 use crate::acceptance::classes;
-use figures::Figures;
 use table::{ROWS, Refusal, Table};
-
-// Both classes' figures over some rows.
-#[derive(Clone, Copy)]
-struct Totals {
-    a: Figures,
-    b: Figures,
-}
-
-// How many frames each class may have in the port.
-#[derive(Clone, Copy)]
-struct FrameCounts {
-    a: u64,
-    b: u64,
-}
 
 // Whether a table may be opened, or why not.
 pub fn opening(t: Table) -> Result<(), Refusal>

@@ -3,13 +3,12 @@ ghost use Rattle.std.specs.Prelude.{◌≤◌, length};
 ghost use Rattle.table.specs.Limits.{most_rows};
 ghost use Rattle.planner.specs.Steps.{TotalsOf};
 
-use crate::Totals;
-use figures::Figures;
 use figures::sums::{row_passes, with_row};
+use figures::{Both, Figures};
 use table::{Class, Refusal, Row};
 
 // One pass over the rows: their ranges, and both classes' figures.
-pub fn summed(rows: &[Row], gaps: bool) -> Result<Totals, Refusal>
+pub fn summed(rows: &[Row], gaps: bool) -> Result<Both<Figures>, Refusal>
     requires { length rows.now ≤ most_rows }
     ensures { TotalsOf gaps rows.now result }
 {
@@ -28,5 +27,5 @@ pub fn summed(rows: &[Row], gaps: bool) -> Result<Totals, Refusal>
         a = with_row(a, Class::A, *row);
         b = with_row(b, Class::B, *row);
     }
-    Ok(Totals { a, b })
+    Ok(Both { a, b })
 }

@@ -13,7 +13,7 @@ ghost use Rattle.spacing.specs.Spread.{spread_test};
 ghost use Rattle.tally.specs.Rows.{TestBy};
 ghost use Rattle.record.specs.Steps.{numbers_test, others_test, instant_if, instants_by, Bounded, rows_test};
 
-use figures::{BothLanes, Lane};
+use figures::{Both, Lane};
 use frames::tests::{best_ok, wire_ok};
 use machine::{LAST_CLOCK, Port};
 use notes::Order;
@@ -45,7 +45,7 @@ fn credit_ok(credit: i64, l: Lane) -> bool
 }
 
 // The clock and the credits of a record whose table is accepted.
-fn numbers_ok(p: &Port, lanes: BothLanes) -> bool
+fn numbers_ok(p: &Port, lanes: Both<Lane>) -> bool
     requires table_value { standing (contents p.now.table) ≡ accepted }
     requires a_value { lanes.a ≡ lane_of Class.A (contents p.now.table) }
     requires b_value { lanes.b ≡ lane_of Class.B (contents p.now.table) }
@@ -55,7 +55,7 @@ fn numbers_ok(p: &Port, lanes: BothLanes) -> bool
 }
 
 // The best-effort frames that wait, and the frame on the wire. A queue without a frame is not handed on.
-fn others_ok(p: &Port, lanes: BothLanes) -> bool
+fn others_ok(p: &Port, lanes: Both<Lane>) -> bool
     ensures { result ≡ others_test (limits_by lanes.a lanes.b p.now.table.rows) (view p.now) }
 {
     (p.best.count == 0 || best_ok(p.best, wire_size(p.table.header.payload), p.clock))
@@ -75,7 +75,7 @@ fn instant_ok(last: Option<u64>, bound: u64, clock: u64) -> bool
     }
 }
 
-// The instants of the first numbers, by their bounds. (By their rows, these would be copied.)
+// The instants of the first numbers, by their bounds. (By their rows, these would be copied. Stays a loop by number: a zip under a range of rows is no plainer.)
 fn instants_ok(last: &[Option<u64>; ROWS], made: &[u64; ROWS], rows: usize, clock: u64) -> bool
     requires rows_le_most_rows { rows ≤ most_rows }
     requires rows_in_bounds { rows ≤ length made.now }
@@ -91,7 +91,7 @@ fn instants_ok(last: &[Option<u64>; ROWS], made: &[u64; ROWS], rows: usize, cloc
 
 // The rows in use, whose bounds are lent: no instant after the clock, each frame that waits as its row lets it, and each row's frames as many, as far apart and as new as they may be. Where the frames
 // stand in another order than calls leave them, that they are apart is still to be asked.
-fn rows_order(p: &Port, lanes: BothLanes, made: &[u64; ROWS]) -> Order
+fn rows_order(p: &Port, lanes: Both<Lane>, made: &[u64; ROWS]) -> Order
     requires places { Places p.now }
     requires count_le_most_rows { p.now.table.count ≤ most_rows }
     requires bounded { Bounded p.now made.now }
@@ -107,7 +107,7 @@ fn rows_order(p: &Port, lanes: BothLanes, made: &[u64; ROWS]) -> Order
 }
 
 // A record whose table is accepted, with the right row count and bounds, but for the order of its rows' frames.
-fn parts_order(p: &Port, lanes: BothLanes, made: &[u64; ROWS]) -> Order
+fn parts_order(p: &Port, lanes: Both<Lane>, made: &[u64; ROWS]) -> Order
     requires places { Places p.now }
     requires table_value { standing (contents p.now.table) ≡ accepted }
     requires a_value { lanes.a ≡ lane_of Class.A (contents p.now.table) }

@@ -1,4 +1,5 @@
 // A call carried out on a record's bytes: the numbers and the wire are written, and of queues and instants the words that it changes.
+// Room is asked for by a `requires`, and why: see recordparts, parts.rt.
 ghost use Rattle.std.specs.Prelude.{◌≡◌, true, ◌+◌, ◌*◌, ◌≤◌, length};
 ghost use Rattle.machine.specs.Effects.{Room, carried_out};
 ghost use Rattle.recordbytes.specs.Layout.{frame_width, record_width, record_size};

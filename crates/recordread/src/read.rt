@@ -65,7 +65,8 @@ fn zero_frame() -> Frame
     }
 }
 
-// The rows of a table, zeros behind the last one.
+// The rows of a table, zeros behind the last one. (That n is at most the row places stays a `requires`, here and below: each asks it for the places of one array.)
+// One generic for this, `frames_at`, `lasts_at` and `bounds_at`, by a closure and `F.post`: tried, and `invariant-loop-i` was refused; each would also need a lemma from single places to `placed`.
 fn rows_at(s: &[u8], n: usize) -> [Row; ROWS]
     requires { n ≤ most_rows }
     ensures { result ≡ placed most_rows no_row (gathered (row_at s.now) row_width rows_start n) }

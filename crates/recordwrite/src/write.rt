@@ -1,5 +1,6 @@
 // A port's parts stored over a record's bytes. Words that belong to no part keep what they hold.
-ghost use Rattle.std.specs.Prelude.{◌≡◌, ◌+◌, ◌*◌, ◌≤◌, min, length, take};
+// Room is asked for by a `requires`, and why: see recordparts, parts.rt.
+ghost use Rattle.std.specs.Prelude.{◌≡◌, ◌+◌, ◌*◌, ◌≤◌, length, take};
 ghost use Rattle.words.specs.Words.{stored, spread};
 ghost use Rattle.table.specs.Limits.{most_rows};
 ghost use Rattle.table.specs.Rows.{rows_of, contents};
@@ -20,13 +21,6 @@ use rowbytes::ROW_WIDTH;
 use rowbytes::write::{put_row, put_word};
 use table::rows::is_there;
 use table::{ROWS, Row, Table};
-
-// How many of n things have a place.
-fn placed(n: usize, places: usize) -> usize
-    ensures { result ≡ min n places }
-{
-    n.min(places)
-}
 
 // The version, the header and the row count.
 fn put_head(out: &mut [u8], t: Table)
@@ -82,8 +76,7 @@ fn put_lasts(out: &mut [u8], t: Table, lasts: [Option<u64>; ROWS])
     requires { record_size ≤ length out.old }
     ensures { out.new ≡ lasts_over (rows_of t) (instants_of (rows_of t) lasts) out.old }
 {
-    let n = placed(t.count, ROWS);
-    for i in 0..n {
+    for i in 0..t.count.min(ROWS) {
         put_mark(out, LAST_START + LAST_WIDTH * i, t.rows[i], lasts[i]);
     }
 }

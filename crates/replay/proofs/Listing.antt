@@ -17,7 +17,7 @@ use Rattle.machine.specs.State.{fresh, view}
 use Rattle.machine.specs.Calls.{Answer, answer, after}
 use Rattle.machine.specs.Run.{machine, answered}
 use Rattle.callbytes.specs.declared.Asked.{Asked}
-use Rattle.callbytes.specs.Calls.{call_of, call_by, answer_size, answer_bytes, fronted}
+use Rattle.callbytes.specs.Calls.{call_of, call_or_none, answer_size, answer_bytes, fronted}
 use Rattle.callbytes.proofs.Laws.{answer_length, answer_fits}
 use Rattle.replay.specs.List.{asked_at, call_at, is_unreadable, first_unreadable, count_of, calls_of, events_of, answers_of}
 
@@ -44,7 +44,7 @@ none_missing s n i e h f =
     true≢false (rw (zero-add, f) at there)
 
 pub called_at : (s : List ℕ) (i : ℕ) (a : Asked) {o : Option Asked} → o ≡ asked_at s i → o ≡ Some a → call_of a ≡ call_at s i
-called_at s i a e f = ap call_by (sym f ∙ e)
+called_at s i a e f = ap call_or_none (sym f ∙ e)
 
 -- ---- the answers, one behind the other
 answers_length : (t : Contents) (s : List ℕ) (n : ℕ) → length (answers_of (answered t (calls_of s n))) ≡ answer_size * n

@@ -9,14 +9,14 @@ use Rattle.machine.specs.Calls.{Call}
 use Rattle.machine.specs.Run.{Event, event, answered, Ran}
 use Rattle.codes.specs.Codes.{code_of, file_check}
 use Rattle.callbytes.specs.declared.Asked.{Asked}
-use Rattle.callbytes.specs.Calls.{call_size, answer_size, read_call, call_by, answer_bytes}
+use Rattle.callbytes.specs.Calls.{call_size, answer_size, read_call, call_or_none, answer_bytes}
 
 -- The call of number i, if it can be read.
 unfoldable pub asked_at : List ℕ → ℕ → Option Asked
 asked_at calls i = read_call (take call_size (drop (call_size * i) calls))
 
 abbrev pub call_at : List ℕ → ℕ → Call
-call_at calls i = call_by (asked_at calls i)
+call_at calls i = call_or_none (asked_at calls i)
 
 abbrev pub count_of : List ℕ → ℕ
 count_of calls = length calls / call_size

@@ -1,4 +1,5 @@
 // Whether words name a row: each of them fits its field.
+// That the places are below 2^64 stays a `requires`: a number beside each word's place is no plainer as a type.
 ghost use Rattle.std.specs.Prelude.{◌≡◌, ◌+◌, ◌<◌, ◌^◌};
 ghost use Rattle.rowbytes.specs.Row.{pace_width, row_width, pace_fits, row_fits};
 

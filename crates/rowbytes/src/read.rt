@@ -1,4 +1,5 @@
 // The row that words name.
+// That the places are below 2^64 stays a `requires`: a number beside each word's place is no plainer as a type.
 ghost use Rattle.std.specs.Prelude.{◌≡◌, ◌+◌, ◌<◌, ◌^◌};
 ghost use Rattle.words.specs.Words.{word_at};
 ghost use Rattle.rowbytes.specs.Row.{pace_width, row_width, u8_of, u16_of, u32_of, class_of, pace_at, row_at};

@@ -1,4 +1,5 @@
 // The words of a row, put where there is room for them.
+// Room is asked for by a `requires`, and why: see recordparts, parts.rt.
 ghost use Rattle.std.specs.Prelude.{◌≡◌, [], ◌∷◌, ◌+◌, ◌*◌, ◌≤◌, length};
 ghost use Rattle.words.specs.Words.{stored};
 ghost use Rattle.rowbytes.specs.Row.{pace_width, row_width, class_word, pace_words, row_words};

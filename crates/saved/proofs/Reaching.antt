@@ -29,7 +29,6 @@ use Rattle.machine.specs.declared.Patch.{Patch}
 use Rattle.machine.specs.declared.Change.{Change}
 use Rattle.machine.specs.declared.Change.TheVariants.{LeftA, LeftB, LeftBest, JoinedA, JoinedB, JoinedBest}
 use Rattle.machine.specs.declared.Effect.{Effect}
-use Rattle.machine.specs.Limits.{no_mark}
 use Rattle.machine.specs.State.{State, view, port_of, Placed}
 use Rattle.machine.specs.Calls as machines
 use Rattle.machine.specs.Calls.{Call, Answer, taken, passed, denied, number_of, place_of, Keeps, patches, KeepsTable, Gives}
@@ -37,7 +36,7 @@ use Rattle.machine.specs.Effects.{passed_answer, changed_by, carried_out, Room, 
 use Rattle.machine.specs.Run.{Event, event, Run, called}
 use Rattle.machine.proofs.Effects.{keeps}
 use Rattle.machine.proofs.Theorem.{every_run, run_placed}
-use Rattle.words.specs.Words.{Bytes, flat, word_bytes}
+use Rattle.words.specs.Words.{Bytes}
 use Rattle.codes.specs.Codes.{code_of, file_check}
 use Rattle.codes.proofs.Laws.{kept, opened_accepted}
 use Rattle.recordbytes.specs.Layout.{record_size}
@@ -49,7 +48,7 @@ use Rattle.recordbytes.proofs.Trip.{reading_written, read_fits, same_parts}
 use Rattle.recordwrite.specs.Written.{written, patched}
 use Rattle.recordwrite.proofs.Laws.{written_fits, patched_fits}
 use Rattle.callbytes.specs.declared.Asked.{Asked}
-use Rattle.callbytes.specs.Calls.{answer_size, call_of, read_call, call_by, answer_bytes, fronted, is_denied}
+use Rattle.callbytes.specs.Calls.{answer_size, call_of, read_call, call_or_none, answer_bytes, fronted, is_denied}
 use Rattle.callbytes.proofs.Laws.{answer_length, answer_fits}
 use Rattle.turns.specs.declared.Judged.{Judged}
 use Rattle.turns.specs.declared.Judged.TheVariants as judged
@@ -198,7 +197,7 @@ module _ (saved call before : List ℕ) where
 
     module _ (long_enough : answer_size ≤ length before) where
       abbrev c : Call
-      c = call_by (read_call call)
+      c = call_or_none (read_call call)
 
       ready : call_check call (length before) ≡ accepted
       unfolding call_check
@@ -211,8 +210,8 @@ module _ (saved call before : List ℕ) where
       pub asked_for : (p : Port) (r : Result Judged Denial) → Turns p (call_of asked) r → Turns p c r
       asked_for p r m = rw known m
 
-      pub call_broken : {after : List ℕ} → read_record saved ≡ None → after ≡ fronted (flat word_bytes (18 ∷ 0 ∷ no_mark ∷ 0 ∷ 0 ∷ [])) before → Called saved saved call before after 0
-      unfolding read_record answer_on bytes_after answer_bytes
+      pub call_broken : {after : List ℕ} → read_record saved ≡ None → after ≡ fronted (answer_bytes (denied 18 0)) before → Called saved saved call before after 0
+      unfolding read_record answer_on bytes_after
       call_broken {after} unread e = broken (go (is_record saved) refl unread)
         where
           go : (b : Bool) → is_record saved ≡ b → cond b (Some (port_from (state_of saved))) None ≡ None → is_record saved ≡ false

@@ -17,7 +17,7 @@ use Rattle.recordbytes.specs.Port.{port_from}
 use Rattle.recordwrite.specs.Written.{patched as patched_over}
 use Rattle.turns.specs.declared.Judged.{Judged}
 use Rattle.turns.specs.declared.Judged.TheVariants as judged
-use Rattle.callbytes.specs.Calls.{answer_size, read_call, call_by, answer_bytes}
+use Rattle.callbytes.specs.Calls.{answer_size, read_call, call_or_none, answer_bytes}
 
 -- Bytes that hold a port to which a list of calls has led, from opening by calls that keep their promises; so demand 3 holds of that list.
 pub record Reached (t : Table) (es : List Event) (s : List ℕ) : Type 0 where
@@ -66,7 +66,7 @@ CarriedOver p (judged.Patch x) s t = t ≡ patched_over x.table (cleared_at x.cl
 -- `saved` and `kept` are the record's bytes before and after, `before` and `after` the answer's buffer.
 pub record Called (saved kept call before after : List ℕ) (r : ℕ) : Type 0 where
   pub code : r ≡ code_of (call_check call (length before))
-  pub answer : after ≡ over (call_check call (length before)) (answer_bytes (answer_on saved (call_by (read_call call)))) before
-  pub port : kept ≡ unless_refused (call_check call (length before)) (bytes_after saved (call_by (read_call call))) saved
+  pub answer : after ≡ over (call_check call (length before)) (answer_bytes (answer_on saved (call_or_none (read_call call)))) before
+  pub port : kept ≡ unless_refused (call_check call (length before)) (bytes_after saved (call_or_none (read_call call))) saved
   -- a call on a port that a list has led to makes the list one call longer
-  pub reached : call_check call (length before) ≡ accepted → (t : Table) (es : List Event) → Reached t es saved → Reached t (event (call_by (read_call call)) (answer_on saved (call_by (read_call call))) ∷ es) kept
+  pub reached : call_check call (length before) ≡ accepted → (t : Table) (es : List Event) → Reached t es saved → Reached t (event (call_or_none (read_call call)) (answer_on saved (call_or_none (read_call call))) ∷ es) kept

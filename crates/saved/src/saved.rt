@@ -3,10 +3,10 @@ ghost use Rattle.std.specs.Prelude.{◌≡◌, ◌≤◌, length};
 ghost use Rattle.recordbytes.specs.Layout.{record_size};
 ghost use Rattle.saved.specs.Saved.{cleared, CarriedOver, OpenedInto, Called};
 
-use callbytes::answers::{ANSWER_SIZE, put_answer, write_reply};
+use callbytes::answers::{ANSWER_SIZE, write_reply};
 use callbytes::calls::read_call;
 use codes::{code, of_unopened};
-use machine::{NO_MARK, Port};
+use machine::{Denial, Port};
 use patches::patches::without_last;
 use record::check::is_sound;
 use recordbytes::RECORD_SIZE;
@@ -26,6 +26,7 @@ fn clear(out: &mut [u8])
 }
 
 // The fresh port of a table file as a record's bytes. At a refusal no byte is written.
+// (102, 103 and 104 are the C interface's own numbers.)
 pub fn open(file: &[u8], out: &mut [u8]) -> u64
     ensures { OpenedInto file.now out.old out.new result }
 {
@@ -66,7 +67,7 @@ pub fn call(saved: &mut [u8], call: &[u8], answer: &mut [u8]) -> u64
         return code(103, 0);
     }
     let Some(p) = read_record(saved) else {
-        put_answer(answer, 18, 0, u64::from(NO_MARK), 0, 0);
+        write_reply(answer, Err(Denial::Broken));
         return 0;
     };
     match turn(p, is_sound(p), asked) {

@@ -2,10 +2,12 @@
 use Prim.Native.Nat.{ℕ, zero, suc, ◌+◌, ◌-◌, ◌≤◌, ◌<◌}
 use mathlib.Core.Bool.{Bool, true, false, false≢true, ◌&&◌, and-false}
 use mathlib.Core.List.{List, [], ◌∷◌}
-use mathlib.Core.Path.{◌≡◌, refl, sym, ◌∙◌}
+use mathlib.Core.Path.{◌≡◌, refl, sym, ◌∙◌, ap}
 use native.Mathlib.Numerals.{add-one}
 use native.Mathlib.Omega.{arith}
 use lib.Dec.{leb}
+use lib.ListN.{length, get_or}
+use Rattle.std.specs.List.{list_all, enumerate_from}
 use borrow.Author.Tests.{le-leb, lt-leb}
 use Rattle.table.specs.declared.Class.{Class}
 use Rattle.table.specs.declared.Class.TheVariants.{A, B}
@@ -39,6 +41,27 @@ every (suc n) ok e = rw (every n ok (λ k h. e k (omega (arith, h))), e n (omega
 pub up_to_same : (n : ℕ) (ok too : ℕ → Bool) → ((k : ℕ) → k < n → ok k ≡ too k) → up_to n ok ≡ up_to n too
 up_to_same zero ok too e = refl
 up_to_same (suc n) ok too e = rw (up_to_same n ok too (λ k h. e k (omega arith)), e n (omega arith)) refl
+
+-- the first number's test in front
+up_front : (n : ℕ) (ok : ℕ → Bool) → up_to (suc n) ok ≡ (ok 0 && up_to n (λ k. ok (suc k)))
+up_front zero ok = both (ok 0)
+  where
+    both : (b : Bool) → (true && b) ≡ (b && true)
+    both true = refl
+    both false = refl
+up_front (suc n) ok = rw (up_front n ok) (three (ok 0) (up_to n (λ k. ok (suc k))) (ok (suc n)))
+  where
+    three : (a b c : Bool) → ((a && b) && c) ≡ (a && (b && c))
+    three true b c = refl
+    three false b c = refl
+
+-- each thing of a list tested with its number
+pub all_numbers : {X : Type 0} (test : ℕ × X → Bool) (d : X) (a : ℕ) (xs : List X) (ok : ℕ → Bool) → ((k : ℕ) → k < length xs → test (a + k, get_or xs k d) ≡ ok k) → list_all test (enumerate_from a xs) ≡ up_to (length xs) ok
+all_numbers test d a [] ok e = refl
+all_numbers test d a (x ∷ xs) ok e =
+    let z : a + 0 ≡ a = omega arith in
+    let first : test (a, x) ≡ ok 0 = rw z at (e 0 (omega arith)) in
+    rw (up_front (length xs) ok, first) (ap (λ b. ok 0 && b) (all_numbers test d (a + 1) xs (λ k. ok (suc k)) (λ k h. let y : a + suc k ≡ a + 1 + k = omega arith in rw y at (e (suc k) (omega arith)))))
 
 -- one that is made of two
 pub up_to_both : (n : ℕ) (x y : ℕ → Bool) → up_to n (λ k. x k && y k) ≡ (up_to n x && up_to n y)

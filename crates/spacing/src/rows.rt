@@ -24,7 +24,7 @@ fn apart_from(x: u64, others: &[u64], period: u64) -> bool
     others.iter().all(|y| apart(x, *y, period))
 }
 
-// Each instant from each.
+// Each instant from each. Stays a loop: tried by `all`, and `returns` did not close at what the closure, which takes a part of `xs`, gives.
 fn all_apart(xs: &[u64], period: u64) -> bool
     ensures { result ≡ spaced period xs.now }
 {
@@ -93,10 +93,7 @@ pub fn all_spread(w: Wire, a: Queue<CLASS_PLACES>, b: Queue<CLASS_PLACES>, t: Ta
     let Some(inb) = b.frames.get(..b.count) else {
         return false;
     };
-    for (k, row) in rows.iter().enumerate() {
-        if !spread_ok(k, period(*row), w, ina, inb) {
-            return false;
-        }
-    }
-    true
+    rows.iter()
+        .enumerate()
+        .all(|(k, row)| spread_ok(k, period(*row), w, ina, inb))
 }

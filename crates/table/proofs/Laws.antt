@@ -26,7 +26,7 @@ use Rattle.table.specs.Ranges.{count_ok, header_ok, within, rate_ok, samples_ok,
 use Rattle.table.proofs.Shape.{row_here}
 -- a table record's places and rows, and quotients rounded up
 pub use Rattle.table.proofs.Shape.{places, rows_length, rows_are, row_in_place, next_row, no_row_lem}
-pub use Rattle.table.proofs.Search.{Passed, none_yet, fails_here, passes_here, all_passed}
+pub use Rattle.table.proofs.Search.{Passed, none_yet, fails_here, passes_here, all_passed, found_at, none_found}
 pub use Rattle.table.proofs.Ranged.{count_is, count_few, count_right_lem, count_low, count_high, header_wrong, row_wrong, all_right}
 -- rows that join and leave
 pub use Rattle.table.proofs.Patched.{not_there, no_row_there, there_used, with_length, with_same, with_other, row_with, row_with_other, with_used, with_still, with_before, row_without, without_gone, without_before, without_count, without_length, trimmed_length}

@@ -23,7 +23,7 @@ fn is_zero(pace: Pace) -> bool
     matches!(pace, Pace::Period(0))
 }
 
-// Whether a row is there: not all of it is zeros. (Each row in range has a deadline, so this is one test for it.)
+// Whether a row is there: not all of it is zeros. (No comparison with `no_row()`: this asks the deadline first, which each row in range has.)
 #[tactic(auto, unfolding(crate::specs::Rows::is_there))]
 pub fn is_there(row: Row) -> bool
     ensures { result ≡ is_there row }

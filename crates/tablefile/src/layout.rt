@@ -60,7 +60,7 @@ const RESERVED_WEIGHT: u8 = 32;
 
 const CLASS_WEIGHT: u8 = 128;
 
-// What a map byte says: which fields stand, whether no reserved bit does, whether the row is tagged, whether both paces stand, and the class. (A function for each named bit: with the weight as a parameter they would be no plainer.)
+// What a map byte says: which fields stand, whether no reserved bit does, whether the row is tagged, whether both paces stand, and the class. (A function for each named bit: with the weight as a parameter every caller would name the weight beside the bit's meaning.)
 pub fn payload_stands(map: u8) -> bool
     ensures { result ≡ bit_of Payload map }
 {

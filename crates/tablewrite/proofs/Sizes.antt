@@ -66,16 +66,6 @@ module _ (ed : Edition) (rs : List Row) (i : ℕ) where
       pub stored_next : sets (take at xs ++ (ys ++ drop (length xs - at) (drop at xs))) (at + length (this ed rs i)) (rest ed rs (i + 1)) ≡ sets xs at (rest ed rs i)
       stored_next = rw (done, rest_next h) (sets_append (this ed rs i) (rest ed rs (i + 1)) xs at)
 
--- the rows from the front on that pass a test, counted
-pub passing_count : (ok : Row → Bool) (rs : List Row) → length (take_while ok rs) ≡ passing ok rs
-unfolding passing
-passing_count ok [] = refl
-passing_count ok (r ∷ rs) = by_test (ok r) (passing_count ok rs)
-  where
-    by_test : (b : Bool) → length (take_while ok rs) ≡ passing ok rs → length (take (cond b (1 + prefix_len ok rs) 0) (r ∷ rs)) ≡ cond b (suc (passing ok rs)) 0
-    by_test true e = rw one-add (ap suc e)
-    by_test false e = refl
-
 -- the sizes of the rows, added up
 pub rows_sum : (ed : Edition) (rs : List Row) → sum_by (λ r. row_size (map_byte ed r)) rs ≡ length (rows_bytes ed rs)
 unfolding rows_bytes

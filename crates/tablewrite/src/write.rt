@@ -1,8 +1,7 @@
 // Writing a table file.
-ghost use Rattle.std.specs.Prelude.{◌≡◌, cond, [], ◌++◌, ◌+◌, ◌*◌, ◌≤◌, length, drop};
+ghost use Rattle.std.specs.Prelude.{◌≡◌, not, position, cond, [], ◌++◌, ◌+◌, ◌*◌, ◌≤◌, length, drop};
 ghost use Rattle.std.proofs.lemmas.List.Edits.{sets};
 ghost use Rattle.table.specs.Limits.{most_rows};
-ghost use Rattle.table.specs.Checks.{passing};
 ghost use Rattle.tablefile.specs.Layout.{header_size, Period, Rate, allows};
 ghost use Rattle.tablefile.specs.Writing.{bit_for, map_byte, row_bytes, rows_bytes, header_bytes, Writes};
 
@@ -99,13 +98,11 @@ fn write_row(edition: Edition, row: Row, out: &mut [u8]) -> usize
     row_size(map)
 }
 
-// How many rows the edition allows before the first that it does not.
-fn rows_allowed(edition: Edition, rows: &[Row]) -> usize
-    ensures { result ≡ passing (allows edition) rows.now }
+// The first row that the edition does not allow.
+fn barred(edition: Edition, rows: &[Row]) -> Option<usize>
+    ensures { result ≡ position (λ r. not (allows edition r)) rows.now }
 {
-    rows.iter()
-        .take_while(|row| allowed(edition, **row))
-        .count()
+    rows.iter().position(|row| !allowed(edition, *row))
 }
 
 // The length of the rows in a file.
@@ -136,8 +133,7 @@ pub fn write(edition: Edition, t: Table, out: &mut [u8]) -> Result<usize, Unwrit
 {
     ranges(t)?;
     let rows = &t.rows[..t.count];
-    let row = rows_allowed(edition, rows);
-    if row < rows.len() {
+    if let Some(row) = barred(edition, rows) {
         return Err(Unwritten::Tagged(row));
     }
     let size = HEADER_SIZE + rows_size(edition, rows);

@@ -14,6 +14,7 @@ use machine::{Denial, Passed, Port};
 use patches::patches::{carried, judge_join, judge_leave};
 
 // What a call comes to; `whole` is what the record check says (told otherwise, what it comes to is free).
+// `whole` stays a parameter beside the port: a type that held that it is what the record check says would ask more of callers, each of which may tell otherwise.
 pub fn turn(p: Port, whole: bool, asked: Asked) -> Result<Judged, Denial>
     ensures { whole ≡ sound (view p) → Turns p (call_of asked) result }
 {

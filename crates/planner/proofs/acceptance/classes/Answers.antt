@@ -13,7 +13,8 @@ use Rattle.table.specs.Limits.{most_rows}
 use Rattle.table.specs.Rows.{rows_of, contents}
 use Rattle.table.specs.Ranges.{count_ok}
 use Rattle.table.proofs.Laws.{places, rows_are, count_is, count_few}
-use Rattle.planner.specs.declared.Totals.{Totals}
+use Rattle.figures.specs.declared.Figures.{Figures}
+use Rattle.figures.specs.declared.Both.{Both}
 use Rattle.planner.specs.Sums.{members, largest, total, shares}
 use Rattle.planner.specs.Steps.{figures_in, figures_of, AllIn}
 use Rattle.planner.proofs.Verdicts.{refused_right, handed_on, by_count, by_header, by_row, in_range}
@@ -27,7 +28,7 @@ told t e f = sym (count_is t) ∙ sym e ∙ f
 own_rows : (t : Table) → length t.rows ≡ 32 → count_ok (rows_of t) ≡ true → rows_of t ≡ take t.count t.rows
 own_rows t long e = rows_are t (rw long (count_few t e))
 
-own : (gaps : Bool) (t : Table) → length t.rows ≡ 32 → count_ok (rows_of t) ≡ true → {r : Totals} → AllIn gaps (take t.count t.rows) r → AllIn gaps (rows_of t) r
+own : (gaps : Bool) (t : Table) → length t.rows ≡ 32 → count_ok (rows_of t) ≡ true → {r : Both Figures} → AllIn gaps (take t.count t.rows) r → AllIn gaps (rows_of t) r
 own gaps t long e s = rw (own_rows t long e) s
 
 figures : (c : Class) (t : Table) → figures_in c (rows_of t) ≡ figures_of c (contents t)

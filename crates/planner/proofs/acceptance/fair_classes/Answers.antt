@@ -45,13 +45,13 @@ pub returns-then-not-slopes_ok : goal.returns-then-not-slopes_ok
 returns-then-not-slopes_ok c =
     let p = refused_right _ _ _ Slopes (by_slopes c.args.gaps _ c.requires.t_value (slopes _ c.requires.summed.is_a c.requires.summed.is_b_lem c.slopes_ok.ensures c.if-not-slopes_ok.true)) refl in record { classed = p.0; bounds = p.1 }
 
-pub returns-then-from-a : goal.returns-then-from-a
-returns-then-from-a c =
-    let p = refused_right _ _ _ (Shares A) (by_shares_a c.args.gaps _ c.requires.t_value (slopes _ c.requires.summed.is_a c.requires.summed.is_b_lem c.slopes_ok.ensures c.if-not-slopes_ok.false) (above A _ c.requires.summed.is_a (rw c.from.ensures at c.if-from-a.true))) refl in record { classed = p.0; bounds = p.1 }
+pub returns-then-from-sums : goal.returns-then-from-sums
+returns-then-from-sums c =
+    let p = refused_right _ _ _ (Shares A) (by_shares_a c.args.gaps _ c.requires.t_value (slopes _ c.requires.summed.is_a c.requires.summed.is_b_lem c.slopes_ok.ensures c.if-not-slopes_ok.false) (above A _ c.requires.summed.is_a (rw c.from.ensures at c.if-from-sums.true))) refl in record { classed = p.0; bounds = p.1 }
 
-pub returns-then-from-b : goal.returns-then-from-b
-returns-then-from-b c =
-    let p = refused_right _ _ _ (Shares B) (by_shares_b c.args.gaps _ c.requires.t_value (slopes _ c.requires.summed.is_a c.requires.summed.is_b_lem c.slopes_ok.ensures c.if-not-slopes_ok.false) (within A _ c.requires.summed.is_a (rw c.from.ensures at c.if-from-a.false)) (above B _ c.requires.summed.is_b_lem (rw c.from-2.ensures at c.if-from-b.true))) refl in record { classed = p.0; bounds = p.1 }
+pub returns-then-from-sums-2 : goal.returns-then-from-sums-2
+returns-then-from-sums-2 c =
+    let p = refused_right _ _ _ (Shares B) (by_shares_b c.args.gaps _ c.requires.t_value (slopes _ c.requires.summed.is_a c.requires.summed.is_b_lem c.slopes_ok.ensures c.if-not-slopes_ok.false) (within A _ c.requires.summed.is_a (rw c.from.ensures at c.if-from-sums.false)) (above B _ c.requires.summed.is_b_lem (rw c.from-2.ensures at c.if-from-sums-2.true))) refl in record { classed = p.0; bounds = p.1 }
 
 pub lane_a-requires : goal.lane_a-requires
 lane_a-requires c =
@@ -73,5 +73,5 @@ timely_classes-requires c =
         used_a = u.0;
         used_b = u.1;
       };
-      passed = record { ranged = c.requires.t_value; slopes = slopes _ c.requires.summed.is_a c.requires.summed.is_b_lem c.slopes_ok.ensures c.if-not-slopes_ok.false; shares_a = within A _ c.requires.summed.is_a (rw c.from.ensures at c.if-from-a.false); shares_b = within B _ c.requires.summed.is_b_lem (rw c.from-2.ensures at c.if-from-b.false) };
+      passed = record { ranged = c.requires.t_value; slopes = slopes _ c.requires.summed.is_a c.requires.summed.is_b_lem c.slopes_ok.ensures c.if-not-slopes_ok.false; shares_a = within A _ c.requires.summed.is_a (rw c.from.ensures at c.if-from-sums.false); shares_b = within B _ c.requires.summed.is_b_lem (rw c.from-2.ensures at c.if-from-sums-2.false) };
     }

@@ -36,28 +36,28 @@ filled : (a b : Lane) (rs : List Row) (xs : List ℕ) {i : ℕ} {ys : List ℕ} 
 filled a b rs xs e h = h ∙ ap (λ (n : ℕ). filled_by a b rs n xs) e
 
 pub loop-i-init : goal.loop-i-init
-loop-i-init c = (none_yet (timely_by c.args.a c.args.b) c.args.rows.now, omega arith, omega arith, zero-add _, zero-add _, refl)
+loop-i-init c = (none_yet (timely_by c.args.lanes.a c.args.lanes.b) c.args.rows.now, omega arith, omega arith, zero-add _, zero-add _, refl)
 
 pub row_time-residence-requires : goal.row_time-residence-requires
 row_time-residence-requires c =
-    every_at (λ r. Ready r c.args.a c.args.b) c.args.rows.now c.requires.ready c.loop-i.i c.loop-i-test.true
+    every_at (λ r. Ready r c.args.lanes.a c.args.lanes.b) c.args.rows.now c.requires.ready c.loop-i.i c.loop-i-test.true
 
 pub returns-then-from-bound : goal.returns-then-from-bound
 returns-then-from-bound c =
-    let late_row = late c.args.a c.args.b _ c.row_time-residence.ensures c.bound_of-bound.ensures (rw c.from.ensures at c.if-from-bound.true) in
-    let found = fails_here (timely_by c.args.a c.args.b) c.args.rows.now c.loop-i.i c.loop-i.invariant.0 c.loop-i-test.true late_row in
-    record { judgement_of = (omega arith, ap Deadline found); bounds = filled c.args.a c.args.b c.args.rows.now _ found c.loop-i.invariant.5 }
+    let late_row = late c.args.lanes.a c.args.lanes.b _ c.row_time-residence.ensures c.bound_of-bound.ensures (rw c.from.ensures at c.if-from-bound.true) in
+    let found = fails_here (timely_by c.args.lanes.a c.args.lanes.b) c.args.rows.now c.loop-i.i c.loop-i.invariant.0 c.loop-i-test.true late_row in
+    record { judgement_of = (omega arith, ap Deadline found); bounds = filled c.args.lanes.a c.args.lanes.b c.args.rows.now _ found c.loop-i.invariant.5 }
 
 pub most_of-ofa-requires : goal.most_of-ofa-requires
-most_of-ofa-requires c = some c.args.a c.args.b _ c.row_time-residence.ensures
+most_of-ofa-requires c = some c.args.lanes.a c.args.lanes.b _ c.row_time-residence.ensures
 
 pub most_of-ofb-requires : goal.most_of-ofb-requires
-most_of-ofb-requires c = some c.args.a c.args.b _ c.row_time-residence.ensures
+most_of-ofb-requires c = some c.args.lanes.a c.args.lanes.b _ c.row_time-residence.ensures
 
 pub loop-i-preserved : goal.loop-i-preserved
 loop-i-preserved c =
-    let a = c.args.a in
-    let b = c.args.b in
+    let a = c.args.lanes.a in
+    let b = c.args.lanes.b in
     let rs = c.args.rows.now in
     let here : c.loop-i.i < length rs = c.loop-i-test.true in (
       passes_here (timely_by a b) rs c.loop-i.i c.loop-i.invariant.0 here (in_time a b _ c.row_time-residence.ensures c.bound_of-bound.ensures (rw c.from.ensures at c.if-from-bound.false)),
@@ -70,8 +70,8 @@ loop-i-preserved c =
 
 pub returns : goal.returns
 returns c =
-    let a = c.args.a in
-    let b = c.args.b in
+    let a = c.args.lanes.a in
+    let b = c.args.lanes.b in
     let rs = c.args.rows.now in
     let all = all_passed (timely_by a b) rs c.loop-i.i c.loop-i.invariant.0 c.loop-i-test.false in
     record {

@@ -19,4 +19,4 @@ Rest c a b rs i n = n + sum_over c (most_by a b) (drop i rs) ≡ sum_over c (mos
 
 abbrev pub invariant-loop-i : goal.invariant-loop-i
 invariant-loop-i l =
-    Passed (timely_by l.a l.b) l.rows l.i × (l.ofa ≤ l.i * 2 ^ 33) × (l.ofb ≤ l.i * 2 ^ 33) × Rest A l.a l.b l.rows l.i l.ofa × Rest B l.a l.b l.rows l.i l.ofb × (l.out ≡ filled_by l.a l.b l.rows l.i l.initial.out)
+    Passed (timely_by l.lanes.a l.lanes.b) l.rows l.i × (l.ofa ≤ l.i * 2 ^ 33) × (l.ofb ≤ l.i * 2 ^ 33) × Rest A l.lanes.a l.lanes.b l.rows l.i l.ofa × Rest B l.lanes.a l.lanes.b l.rows l.i l.ofb × (l.out ≡ filled_by l.lanes.a l.lanes.b l.rows l.i l.initial.out)

@@ -1,5 +1,4 @@
 -- `recordwrite::write::put_lasts` meets its contract: after i turns the instants of the first i numbers are stored, if they are in use.
-use Prim.Native.Nat.{◌≤◌}
 use mathlib.Core.Path.{◌≡◌}
 use lib.ListN.{length, take}
 use Rattle.words.specs.Words.{spread}
@@ -9,4 +8,4 @@ use Rattle.recordwrite.proofs.Storage.{marks}
 use Rattle.recordwrite.proofs.write.put_lasts.Given as goal
 
 abbrev pub invariant-loop-i : goal.invariant-loop-i
-invariant-loop-i l = (l.i ≤ l.n) × (length l.out ≡ length l.initial.out) × (l.out ≡ spread marked_words last_width last_start (take l.i (marks l.t l.lasts)) l.initial.out)
+invariant-loop-i l = (length l.out ≡ length l.initial.out) × (l.out ≡ spread marked_words last_width last_start (take l.i (marks l.t l.lasts)) l.initial.out)

@@ -14,7 +14,7 @@ returns-then-answer-lt-ANSWER_SIZE c = call_short _ _ _ (sym c.read_call.ensures
 
 pub returns-in_default-read_record : goal.returns-in_default-read_record
 returns-in_default-read_record c =
-    call_broken _ _ _ (sym c.read_call.ensures ∙ c.in-Some.is) c.if-answer-lt-ANSWER_SIZE.false (sym c.read_record.ensures ∙ c.in_default-read_record.is) (rw c.from.ensures at c.put_answer.ensures)
+    call_broken _ _ _ (sym c.read_call.ensures ∙ c.in-Some.is) c.if-answer-lt-ANSWER_SIZE.false (sym c.read_record.ensures ∙ c.in_default-read_record.is) c.write_reply.ensures
 
 pub returns-in-Ok : goal.returns-in-Ok
 returns-in-Ok c =
@@ -23,7 +23,7 @@ returns-in-Ok c =
     let bytes = bytes_each c.args.saved.now (λ j. search rules) in
     let comes = asked_for c.args.saved.now c.args.call.now c.args.answer.now known c.if-answer-lt-ANSWER_SIZE.false p (Ok c.in-Ok.j) (rw c.in-Ok.is at c.turn.ensures c.is_sound.ensures) in
     let fits = owned_turn c.read_record.result _ c.read_record.type_inv c.turn.result _ c.turn.type_inv p c.in-Some-read_record.is c.in-Ok.j c.in-Ok.is in
-    call_done _ _ _ known c.if-answer-lt-ANSWER_SIZE.false (sym c.read_record.ensures ∙ c.in-Some-read_record.is) c.in-Ok.j comes fits (rw c.passed.ensures at c.write_reply.ensures) bytes c.carry.ensures
+    call_done _ _ _ known c.if-answer-lt-ANSWER_SIZE.false (sym c.read_record.ensures ∙ c.in-Some-read_record.is) c.in-Ok.j comes fits (rw c.passed.ensures at c.write_reply-in-Ok.ensures) bytes c.carry.ensures
 
 pub returns-in-Err : goal.returns-in-Err
 returns-in-Err c =

@@ -1,12 +1,16 @@
--- `spacing::rows::all_spread` meets its contract: a count above its places fails, and all rows below k pass.
-use Prim.Native.Nat.{ℕ, ◌-◌, ◌≤◌, ◌<◌}
-use mathlib.Core.Bool.{Bool, and-false}
+-- `spacing::rows::all_spread` meets its contract: a count above its places fails, and each row is tested.
+use Prim.Native.Nat.{ℕ, ◌+◌, ◌-◌, ◌≤◌, ◌<◌}
+use mathlib.Core.Bool.{Bool}
 use mathlib.Core.List.{List, ◌++◌}
-use mathlib.Core.Path.{◌≡◌, refl, sym, ◌∙◌}
+use mathlib.Core.Path.{◌≡◌, refl, ◌∙◌, ap}
 use native.Mathlib.Omega.{arith}
 use lib.ListN.{length, get_or, take}
 use lib.Seq.{get_or-take}
 use Rattle.std.specs.List.{slice_range}
+use Rattle.std.proofs.Common.{rules}
+use Rattle.std.proofs.lemmas.Iterator.{YieldsList-from_slice}
+use Rattle.std.proofs.lemmas.Iterator.Consumers.{YieldsList-from_enumerate}
+use Rattle.std.proofs.lemmas.Iterator.Search.{all_from_yields_List}
 use Rattle.table.specs.declared.Class.TheVariants.{A, B}
 use Rattle.table.specs.declared.Row.{Row}
 use Rattle.table.specs.declared.Table.{Table}
@@ -17,12 +21,11 @@ use Rattle.table.proofs.Laws as table
 use Rattle.machine.specs.declared.Frame.{Frame}
 use Rattle.machine.specs.declared.Queue.{Queue}
 use Rattle.machine.specs.declared.Wire.{Wire}
-use Rattle.machine.specs.Record.{taken_in, sending, spaced}
+use Rattle.machine.specs.Record.{taken_in, sending, spaced, up_to}
 use Rattle.machine.proofs.Places.{queue_places}
-use Rattle.spacing.specs.Spread.{in_record, in_places, spaced_test}
-use Rattle.spacing.proofs.Numbers.{fails_at, up_to_next, no_row_lem, no_place, all_places}
+use Rattle.spacing.specs.Spread.{in_record, spaced_test}
+use Rattle.spacing.proofs.Numbers.{all_numbers, no_row_lem, no_place, all_places}
 use Rattle.spacing.proofs.rows.all_spread.Goals as goal
-use Rattle.spacing.proofs.rows.all_spread.Goals.{After-spread_ok}
 
 -- the part of an array that is in use
 front : {X : Type 0} (xs ys : List X) (n : ℕ) → ys ≡ slice_range xs 0 n → ys ≡ take n xs
@@ -33,17 +36,6 @@ unfolding spaced_test
 row-spaced w a b t rs fa fb er ea eb long few k h e q =
     let row : get_or rs k no_row ≡ get_or t.rows k no_row = rw er (get_or-take t.count t.rows k no_row h) in
     rw (table.row_at_lem t long few k h, ← row, ← e, ← ea, ← eb) q
-
-module _ (k : After-spread_ok) where
-  few : k.args.t.count ≤ most_rows
-  few = omega (arith, k.in-Some.ensures.lookup.0.1, table.places k.args.t _ k.well_formed.1.1.1.0)
-
-  inside : k.loop-k.k < k.args.t.count
-  inside = omega (arith, k.in-Some.ensures.lookup.0.3)
-
-  row_tested : k.spread_ok.result ≡ spaced_test (contents k.args.t) (in_record k.args.w k.args.a k.args.b) k.loop-k.k
-  row_tested =
-      row-spaced k.args.w k.args.a k.args.b k.args.t _ _ _ (front _ _ _ k.in-Some.ensures.lookup.0.2) (front _ _ _ k.in-Some-get.ensures.lookup.0.2) (front _ _ _ k.in-Some-get-2.ensures.lookup.0.2) (table.places k.args.t _ k.well_formed.1.1.1.0) few k.loop-k.k inside k.period.ensures.value k.spread_ok.ensures
 
 pub returns-in_default : goal.returns-in_default
 returns-in_default c =
@@ -58,22 +50,16 @@ pub returns-in_default-get-2 : goal.returns-in_default-get-2
 returns-in_default-get-2 c =
     rw (no_place c.args.t c.args.a c.args.b B (omega (arith, c.in_default-get-2.ensures.lookup, queue_places c.args.b _ c.well_formed.1.1.0))) refl
 
-pub returns-then-not-spread_ok : goal.returns-then-not-spread_ok
-returns-then-not-spread_ok c =
-    let k = (goal.at.returns-then-not-spread_ok c).After-spread_ok in
-    let ok = spaced_test (contents c.args.t) (in_record c.args.w c.args.a c.args.b) in
-    rw (← fails_at c.args.t.count ok c.loop-k.k (inside k) (sym (row_tested k) ∙ c.if-not-spread_ok.true)) (sym (and-false (in_places c.args.t c.args.a c.args.b)))
-
-pub loop-k-preserved : goal.loop-k-preserved
-loop-k-preserved c =
-    let k = (goal.at.loop-k-preserved c).After-spread_ok in
-    let ok = spaced_test (contents c.args.t) (in_record c.args.w c.args.a c.args.b) in
-    up_to_next c.loop-k.k ok (sym (row_tested k) ∙ c.if-not-spread_ok.false) c.loop-k.invariant
-
 pub returns : goal.returns
 returns c =
-    let e : c.loop-k.k ≡ c.args.t.count = omega (arith, c.in-Some.ensures.lookup.0.3) in
+    let rows = c.in-Some.rows.now in
+    let test : ℕ × Row → Bool = λ p. spaced (period_of p.1) (taken_in p.0 (sending c.args.w ++ (c.in-Some-get.ina.now ++ c.in-Some-get-2.inb.now))) in
+    let ok = spaced_test (contents c.args.t) (in_record c.args.w c.args.a c.args.b) in
+    let all : length rows ≡ c.args.t.count = omega (arith, c.in-Some.ensures.lookup.0.3) in
     let ra : c.args.a.count ≤ class_places = omega (arith, c.in-Some-get.ensures.lookup.0.1, queue_places c.args.a _ c.well_formed.1.0) in
     let rb : c.args.b.count ≤ class_places = omega (arith, c.in-Some-get-2.ensures.lookup.0.1, queue_places c.args.b _ c.well_formed.1.1.0) in
     let rt : c.args.t.count ≤ most_rows = omega (arith, c.in-Some.ensures.lookup.0.1, table.places c.args.t _ c.well_formed.1.1.1.0) in
-    rw (all_places c.args.t c.args.a c.args.b rt ra rb) (sym (rw e at c.loop-k.invariant))
+    let long = table.places c.args.t _ c.well_formed.1.1.1.0 in
+    let each : (k : ℕ) → k < length rows → test (0 + k, get_or rows k no_row) ≡ ok k =
+    λ k h. let z : 0 + k ≡ k = omega arith in rw z (row-spaced c.args.w c.args.a c.args.b c.args.t rows _ _ (front _ _ _ c.in-Some.ensures.lookup.0.2) (front _ _ _ c.in-Some-get.ensures.lookup.0.2) (front _ _ _ c.in-Some-get-2.ensures.lookup.0.2) long rt k (omega (arith, all)) refl refl) in
+    rw (all_places c.args.t c.args.a c.args.b rt ra rb) (all_from_yields_List test _ _ _ c.all.ensures.ran (YieldsList-from_enumerate (YieldsList-from_slice rows cc) cc) (λ x b q k. search rules) ∙ all_numbers test no_row 0 rows ok each ∙ ap (λ n. up_to n ok) all)

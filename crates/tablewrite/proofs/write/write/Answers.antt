@@ -47,15 +47,15 @@ module _ (ed : Edition) (t : Table) (xs : List ℕ) where
   unfolding writable
   by-range w r h e = let p = err_from_is_err_and w h in rw (p.1, p.2) (refuses (Refused r) refl (rw e refl))
 
-  module _ (e : ranged (contents t) ≡ accepted) {rows : List Row} (er : rows ≡ rows_of t) {k : ℕ} (p : k ≡ passing (allows ed) rows) where
-    by_tag : k < length rows → Writes ed t xs xs (Err (Tagged k))
+  module _ (e : ranged (contents t) ≡ accepted) {rows : List Row} (er : rows ≡ rows_of t) where
+    by_tag : {k : ℕ} → (k ≡ passing (allows ed) rows) × (k < length rows) → Writes ed t xs xs (Err (Tagged k))
     unfolding writable
-    by_tag h = refuses (Tagged k) refl (rw (e, ← er, ← p, lt-leb _ _ h) refl)
+    by_tag {k} h = refuses (Tagged k) refl (rw (e, ← er, ← h.0, lt-leb _ _ h.1) refl)
 
-    module _ (all : length rows ≤ k) {n : ℕ} (s : n ≡ header_size + length (rows_bytes ed rows)) where
+    module _ (all : length rows ≤ passing (allows ed) rows) {n : ℕ} (s : n ≡ header_size + length (rows_bytes ed rows)) where
       may : writable ed (contents t) ≡ accepted
       unfolding writable
-      may = rw (e, ← er, ← p, le-leb _ _ all) refl
+      may = rw (e, ← er, le-leb _ _ all) refl
 
       size : n ≡ length (file_of ed (contents t))
       size = rw (file_size ed (contents t), ← er) s
@@ -92,10 +92,10 @@ returns-in_err-ranges c = by-range _ _ _ c.from_residual.result _ c.from_residua
 pub shared_ref_as_front-rows : goal.shared_ref_as_front-rows
 shared_ref_as_front-rows c = few _ (told _ c.ranges-2.ensures c.in_ok-ranges.was)
 
-pub returns-then-row-rows : goal.returns-then-row-rows
-returns-then-row-rows c =
+pub returns-in-Some : goal.returns-in-Some
+returns-in-Some c =
     let e = told _ c.ranges-2.ensures c.in_ok-ranges.was in
-    by_tag _ _ _ e (used c.args.t (places c.args.t _ c.well_formed.1.0) e) c.rows_allowed-row.ensures (omega arith)
+    by_tag _ _ _ e (used c.args.t (places c.args.t _ c.well_formed.1.0) e) (law.found_at (allows c.args.edition) _ _ (sym c.barred.ensures ∙ c.in-Some.is))
 
 pub rows_size-size-requires : goal.rows_size-size-requires
 rows_size-size-requires c =
@@ -104,9 +104,9 @@ rows_size-size-requires c =
 pub returns-then-out-size : goal.returns-then-out-size
 returns-then-out-size c =
     let e = told _ c.ranges-2.ensures c.in_ok-ranges.was in
-    too_short _ _ _ e (used c.args.t (places c.args.t _ c.well_formed.1.0) e) c.rows_allowed-row.ensures (omega arith) {n = header_size + c.rows_size-size.result} (omega arith) (omega arith)
+    too_short _ _ _ e (used c.args.t (places c.args.t _ c.well_formed.1.0) e) (law.none_found (allows c.args.edition) _ (sym c.barred.ensures ∙ c.in_default.is)) {n = header_size + c.rows_size-size.result} (omega arith) (omega arith)
 
 pub returns : goal.returns
 returns c =
     let e = told _ c.ranges-2.ensures c.in_ok-ranges.was in
-    written _ _ _ e (used c.args.t (places c.args.t _ c.well_formed.1.0) e) c.rows_allowed-row.ensures (omega arith) (omega arith) (omega arith) c.write_header.ensures c.write_rows.ensures
+    written _ _ _ e (used c.args.t (places c.args.t _ c.well_formed.1.0) e) (law.none_found (allows c.args.edition) _ (sym c.barred.ensures ∙ c.in_default.is)) (omega arith) (omega arith) c.write_header.ensures c.write_rows.ensures

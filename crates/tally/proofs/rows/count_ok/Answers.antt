@@ -65,23 +65,23 @@ there c = holds c.is_there.ensures (ap not c.if-not-is_there.false)
 
 pub returns-then-not-is_there : goal.returns-then-not-is_there
 returns-then-not-is_there c =
-    empty c.args.count c.args.newest c.args.last c.args.limit c.args.row (fails c.is_there.ensures (ap not c.if-not-is_there.true))
+    empty c.args.noted.count c.args.noted.newest c.args.last c.args.limit c.args.row (fails c.is_there.ensures (ap not c.if-not-is_there.true))
 
-pub returns-then-count-eq0 : goal.returns-then-count-eq0
-returns-then-count-eq0 c =
-    no_frame_lem c.args.count c.args.newest c.args.last c.args.limit c.args.row (there (goal.at.returns-then-count-eq0 c).Else-not-is_there) c.if-count-eq0.true
+pub returns-then-noted-eq0 : goal.returns-then-noted-eq0
+returns-then-noted-eq0 c =
+    no_frame_lem c.args.noted.count c.args.noted.newest c.args.last c.args.limit c.args.row (there (goal.at.returns-then-noted-eq0 c).Else-not-is_there) c.if-noted-eq0.true
 
 pub overflow_mul-more : goal.overflow_mul-more
-overflow_mul-more c = fits (c.args.count - 1) c.period.result (omega (arith, c.requires)) c.period.ensures.small
+overflow_mul-more c = fits (c.args.noted.count - 1) c.period.result (omega (arith, c.requires)) c.period.ensures.small
 
 pub returns-then-limit-more : goal.returns-then-limit-more
 returns-then-limit-more c =
-    too_many c.args.count c.args.newest c.args.last c.args.limit c.args.row (there (goal.at.returns-then-limit-more c).Else-not-is_there) c.if-count-eq0.false c.period.ensures.value c.if-limit-more.true
+    too_many c.args.noted.count c.args.noted.newest c.args.last c.args.limit c.args.row (there (goal.at.returns-then-limit-more c).Else-not-is_there) c.if-noted-eq0.false c.period.ensures.value c.if-limit-more.true
 
 pub returns-in-Some : goal.returns-in-Some
 returns-in-Some c =
-    known c.args.count c.args.newest c.args.last c.args.limit c.args.row (there (goal.at.returns-in-Some c).Else-not-is_there) c.if-count-eq0.false c.period.ensures.value c.if-limit-more.false c.in-Some.is
+    known c.args.noted.count c.args.noted.newest c.args.last c.args.limit c.args.row (there (goal.at.returns-in-Some c).Else-not-is_there) c.if-noted-eq0.false c.period.ensures.value c.if-limit-more.false c.in-Some.is
 
 pub returns-in-None : goal.returns-in-None
 returns-in-None c =
-    unknown c.args.count c.args.newest c.args.last c.args.limit c.args.row (there (goal.at.returns-in-None c).Else-not-is_there) c.if-count-eq0.false c.period.ensures.value c.if-limit-more.false c.in-None.is
+    unknown c.args.noted.count c.args.noted.newest c.args.last c.args.limit c.args.row (there (goal.at.returns-in-None c).Else-not-is_there) c.if-noted-eq0.false c.period.ensures.value c.if-limit-more.false c.in-None.is
