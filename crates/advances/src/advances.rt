@@ -58,7 +58,7 @@ fn passed(e: Effect) -> Passed
 pub fn advance(p: Port, n: u64) -> After<Result<Passed, Denial>>
     ensures { Advanced p n result }
 {
-    match judge(p, is_sound(p), n) {
+    match judge(p, is_sound(&p), n) {
         Ok(e) => After {
             answer: Ok(passed(e)),
             port: applied(p, e),

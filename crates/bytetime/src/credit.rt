@@ -17,12 +17,12 @@ fn lowered(still: bool, waits: bool, credit: i64) -> i64
     }
 }
 
-// A class while a frame is sent or the wire is free: whether the frame on the wire is its own, whether it has one waiting, and its idle slope.
+// A class while a frame is sent or the wire is free: whether the frame on the wire is its own, whether it has one waiting, and its idle slope. (A u64, widened once and not in each byte-time.)
 #[derive(Clone, Copy)]
 pub struct Shaped {
     pub on: bool,
     pub waits: bool,
-    pub idle: u32,
+    pub idle: u64,
 }
 
 // Its credit after a byte-time, by the bytes left before it of the frame on the wire.
@@ -31,11 +31,10 @@ pub fn credit_after(c: Shaped, left: u32, credit: i64) -> i64
     requires idle_bound { c.idle ≤ D }
     ensures { result ≡ credit_after c.on (c.on && leb 2 left) c.waits c.idle (D - c.idle) credit }
 {
-    let idle = c.idle as u64;
     if c.on {
-        lowered(1 < left, c.waits, credit - (D - idle) as i64)
+        lowered(1 < left, c.waits, credit - (D - c.idle) as i64)
     } else {
-        lowered(false, c.waits, credit + idle as i64)
+        lowered(false, c.waits, credit + c.idle as i64)
     }
 }
 

@@ -11,7 +11,7 @@ use machine::{Change, Effect, Frame, Port};
 use table::ROWS;
 
 // The effect's clock, credits and wire in a record.
-fn settle(p: &mut Port, e: Effect)
+pub fn settle(p: &mut Port, e: Effect)
     ensures { p.new ≡ settled_on e p.old }
 {
     p.clock = e.clock;

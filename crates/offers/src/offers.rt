@@ -130,12 +130,12 @@ fn carried(p: Port, judged: Result<Effect, Denial>) -> After<Result<(), Denial>>
 pub fn offer(p: Port, row: u64, payload: u64) -> After<Result<(), Denial>>
     ensures { Offered p row payload result }
 {
-    carried(p, judge(p, is_sound(p), row, payload))
+    carried(p, judge(p, is_sound(&p), row, payload))
 }
 
 // An offer of best effort.
 pub fn offer_best(p: Port, payload: u64) -> After<Result<(), Denial>>
     ensures { OfferedBest p payload result }
 {
-    carried(p, judge_best(p, is_sound(p), payload))
+    carried(p, judge_best(p, is_sound(&p), payload))
 }

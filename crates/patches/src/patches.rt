@@ -128,12 +128,12 @@ fn patched(p: Port, judged: Result<Patch, Denial>) -> After<Result<(), Denial>>
 pub fn join(p: Port, number: u64, row: Row) -> After<Result<(), Denial>>
     ensures { Joined p number row result }
 {
-    patched(p, judge_join(p, is_sound(p), number, row))
+    patched(p, judge_join(p, is_sound(&p), number, row))
 }
 
 // A leave: the record checked, and the number emptied.
 pub fn leave(p: Port, number: u64) -> After<Result<(), Denial>>
     ensures { Left p number result }
 {
-    patched(p, judge_leave(p, is_sound(p), number))
+    patched(p, judge_leave(p, is_sound(&p), number))
 }

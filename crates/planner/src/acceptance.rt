@@ -42,14 +42,15 @@ fn judged(out: &mut [u64; ROWS], rows: &[Row], lanes: Both<Lane>) -> Result<Both
 // The classes of a table that only a late row or a class with too many frames can still have refused.
 fn timely_classes(
     out: &mut [u64; ROWS],
-    t: Table,
+    t: &Table,
     gaps: bool,
     made: Both<Lane>,
 ) -> Result<Both<Lane>, Refusal>
-    requires lanes { Lanes (contents t) made.a made.b }
-    requires passed { Passed gaps (contents t) }
-    ensures classed { Classed gaps (contents t) result }
-    ensures bounds { BoundsIn gaps (contents t) out.old out.new }
+    requires places { length t.now.rows ≡ most_rows }
+    requires lanes { Lanes (contents t.now) made.a made.b }
+    requires passed { Passed gaps (contents t.now) }
+    ensures classed { Classed gaps (contents t.now) result }
+    ensures bounds { BoundsIn gaps (contents t.now) out.old out.new }
 {
     let found = judged(out, &t.rows[..t.count], made)?;
     if found.a > CLASS_PLACES as u64 {
@@ -64,14 +65,15 @@ fn timely_classes(
 // The classes of a table in range, by their figures.
 fn fair_classes(
     out: &mut [u64; ROWS],
-    t: Table,
+    t: &Table,
     gaps: bool,
     sums: Both<Figures>,
 ) -> Result<Both<Lane>, Refusal>
-    requires summed { Summed (contents t) sums.a sums.b }
-    requires t_value { ranged_by gaps (contents t) ≡ accepted }
-    ensures classed { Classed gaps (contents t) result }
-    ensures bounds { BoundsIn gaps (contents t) out.old out.new }
+    requires places { length t.now.rows ≡ most_rows }
+    requires summed { Summed (contents t.now) sums.a sums.b }
+    requires t_value { ranged_by gaps (contents t.now) ≡ accepted }
+    ensures classed { Classed gaps (contents t.now) result }
+    ensures bounds { BoundsIn gaps (contents t.now) out.old out.new }
 {
     let h = t.header;
     if !slopes_ok(h, sums.a, sums.b) {
@@ -104,5 +106,5 @@ pub fn classes(out: &mut [u64; ROWS], t: Table, gaps: bool) -> Result<Both<Lane>
         return Err(Refusal::Value(HEADER_PLACE));
     }
     let sums = summed(&t.rows[..n], gaps)?;
-    fair_classes(out, t, gaps, sums)
+    fair_classes(out, &t, gaps, sums)
 }

@@ -123,10 +123,16 @@ fn parts_order(p: &Port, lanes: Both<Lane>, made: &[u64; ROWS]) -> Order
     rows_order(p, lanes, made)
 }
 
-// Whether a record is sound. Its content may be any. No row place behind the row count is looked at.
-pub fn is_sound(p: Port) -> bool
-    ensures { result ≡ sound (view p) }
+// That each array of a record is as long as its type says, which a lent record's is too. (Nothing is read, so nothing is copied.)
+fn placed(_p: Port)
+    ensures { Places _p }
+{}
+
+// Whether a record is sound. Its content may be any. No row place behind the row count is looked at. (It is lent: handed over by value it would be copied at each call.)
+pub fn is_sound(p: &Port) -> bool
+    ensures { result ≡ sound (view p.now) }
 {
+    placed(*p);
     let t = p.table;
     let mut out = [0u64; ROWS];
     let Ok(made) = classes(&mut out, t, true) else {
@@ -141,7 +147,7 @@ pub fn is_sound(p: Port) -> bool
     if kept[..n] != out[..n] {
         return false;
     }
-    match parts_order(&p, made, &out) {
+    match parts_order(p, made, &out) {
         Order::Broken => false,
         Order::Rising => true,
         Order::Mixed => all_spread(p.wire, p.a, p.b, t),

@@ -68,7 +68,7 @@ fn step(p: &mut Port, asked: Asked, out: &mut [u8])
     ensures answer { out.new ≡ fronted (answer_bytes (answer (view p.old) (call_of asked))) out.old }
     ensures port { view p.new ≡ after (view p.old) (call_of asked) }
 {
-    match turn(*p, is_sound(*p), asked) {
+    match turn(*p, is_sound(p), asked) {
         Ok(j) => {
             write_reply(out, Ok(passed(j)));
             carry(p, j);

@@ -15,10 +15,10 @@ use texts::text::Answer;
 fn row(e: Option<Frame>) -> u64
     ensures { result ≡ row_of e }
 {
-    match e {
-        Some(f) => f.source as u64,
-        None => NO_MARK as u64,
-    }
+    let Some(f) = e else {
+        return NO_MARK as u64;
+    };
+    f.source as u64
 }
 
 // A call that is made, and its answer as it is printed.

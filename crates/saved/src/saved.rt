@@ -70,7 +70,7 @@ pub fn call(saved: &mut [u8], call: &[u8], answer: &mut [u8]) -> u64
         write_reply(answer, Err(Denial::Broken));
         return 0;
     };
-    match turn(p, is_sound(p), asked) {
+    match turn(p, is_sound(&p), asked) {
         Ok(j) => {
             write_reply(answer, Ok(passed(j)));
             carry(saved, p, j);

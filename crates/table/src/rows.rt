@@ -24,13 +24,11 @@ fn is_zero(pace: Pace) -> bool
 }
 
 // Whether a row is there: not all of it is zeros. (No comparison with `no_row()`: this asks the deadline first, which each row in range has.)
+// The tests behind the deadline's are joined by `|`: with `||` the compiled code joins the deadline's to them, and opening's checks take a fifth more instructions.
 #[tactic(auto, unfolding(crate::specs::Rows::is_there))]
 pub fn is_there(row: Row) -> bool
     ensures { result ≡ is_there row }
 {
     row.deadline != 0
-        || row.payload != 0
-        || row.tagged
-        || row.class != Class::A
-        || !is_zero(row.pace)
+        || (row.payload != 0) | row.tagged | (row.class != Class::A) | !is_zero(row.pace)
 }

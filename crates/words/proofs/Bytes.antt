@@ -1,14 +1,14 @@
 -- A word's eight bytes together, as the library reads and writes them.
-use Rattle.std.proofs.Common.{ℕ, ◌+◌, ◌-◌, ◌*◌, ◌/◌, ◌%◌, ◌≤◌, ◌<◌, min, List, [], ◌∷◌, ◌++◌, ◌≡◌, length, get_or, take, drop, w64, sym, ◌∙◌, ap, arith}
+use Rattle.std.proofs.Common.{ℕ, zero, suc, ◌+◌, ◌*◌, ◌/◌, ◌%◌, ◌≤◌, ◌<◌, List, [], ◌∷◌, ◌++◌, ◌≡◌, length, get_or, take, drop, w64, refl, sym, ◌∙◌, ap, arith}
 use mathlib.Core.List.{append_assoc, append-nil}
 use borrow.Rule.Slice.PartMut.{put_mid}
 use Rattle.std.specs.Int.{to_le_bytes, from_le_bytes}
+use Rattle.std.specs.Simd.{first_chunks}
 use Rattle.std.proofs.lemmas.List.{get_or-take, get_or-drop}
 use Rattle.std.proofs.lemmas.List.Edits.{sets, sets-eq}
-use lib.ListN.{length-take, length-drop}
 use lib.Seq.{drop-drop}
 use Rattle.words.specs.Words.{flat, word_bytes, word_at, stored}
-use Rattle.words.proofs.Fitting.{none_there, word_inside}
+use Rattle.words.proofs.Fitting.{word_inside}
 use Rattle.words.proofs.Stored.{word_length}
 
 -- the bytes of a word, in one or in two halves
@@ -25,36 +25,34 @@ bytes_whole w =
     let h : w / M / 16777216 % 256 ≡ w / 72057594037927936 % 256 = omega arith in
     cc
 
+-- the piece of number k of the whole pieces of 8 bytes
+piece_at : (n k : ℕ) (s d : List ℕ) → k < n → get_or (first_chunks 8 n s) k d ≡ take 8 (drop (8 * k) s)
+piece_at zero k s d h = absurd (omega arith)
+piece_at (suc n) zero s d h = refl
+piece_at (suc n) (suc k) s d h =
+    let at : 8 + 8 * k ≡ 8 * suc k = omega arith in
+    piece_at n k (drop 8 s) d (omega arith) ∙ ap (take 8) (drop-drop (8 * k) 8 s ∙ ap (λ (j : ℕ). drop j s) at)
+
 module _ (s : List ℕ) (k : ℕ) where
-  byte_in : (n i j : ℕ) → i < 8 → 8 ≤ n → j ≡ 8 * k + i → get_or (take 8 (take n (drop (8 * k) s))) i 0 ≡ get_or s j 0
-  byte_in n i j h g e = rw e (get_or-take 8 (take n (drop (8 * k) s)) i 0 h ∙ get_or-take n (drop (8 * k) s) i 0 (omega arith) ∙ get_or-drop (8 * k) s i 0)
+  byte_in : (i j : ℕ) → i < 8 → j ≡ 8 * k + i → get_or (take 8 (drop (8 * k) s)) i 0 ≡ get_or s j 0
+  byte_in i j h e = rw e (get_or-take 8 (drop (8 * k) s) i 0 h ∙ get_or-drop (8 * k) s i 0)
 
-  -- read from the part that begins at the word; j is the word's number, or how many words the bytes hold if that is less
-  module _ (j : ℕ) (few : j ≡ min k (length s / 8)) where
-    part_length : length (take (length s - 8 * j) (drop (8 * j) s)) ≡ length s - 8 * j
-    part_length = simp (length-take, length-drop) (omega arith)
-
-    pub read_whole : (w : ℕ) {bytes : List ℕ} → 8 ≤ length (take (length s - 8 * j) (drop (8 * j) s)) → bytes ≡ take 8 (take (length s - 8 * j) (drop (8 * j) s)) → w ≡ from_le_bytes w64 bytes → w ≡ word_at s k
-    read_whole w {bytes} enough e h =
-        let n : ℕ = length s - 8 * j in
-        let long : 8 ≤ n = omega (arith, part_length) in
-        let here : j ≡ k = omega arith in
-        let at : ℕ = 8 * k in
-        let z : bytes ≡ take 8 (take n (drop at s)) = rw (← here) e in
-        let z : w ≡ from_le_bytes w64 (take 8 (take n (drop at s))) = h ∙ ap (from_le_bytes w64) z in
-        let b0 = byte_in n 0 at (omega arith) long (omega arith) in
-        let b1 = byte_in n 1 (at + 1) (omega arith) long (omega arith) in
-        let b2 = byte_in n 2 (at + 2) (omega arith) long (omega arith) in
-        let b3 = byte_in n 3 (at + 3) (omega arith) long (omega arith) in
-        let b4 = byte_in n 4 (at + 4) (omega arith) long (omega arith) in
-        let b5 = byte_in n 5 (at + 4 + 1) (omega arith) long (omega arith) in
-        let b6 = byte_in n 6 (at + 4 + 2) (omega arith) long (omega arith) in
-        let b7 = byte_in n 7 (at + 4 + 3) (omega arith) long (omega arith) in
-        let whole = word_inside s k (omega arith) in
-        omega arith
-
-    pub read_none : length (take (length s - 8 * j) (drop (8 * j) s)) < 8 → 0 ≡ word_at s k
-    read_none short = none_there s k (omega (arith, part_length))
+  -- read from the whole pieces of 8 bytes
+  pub read_whole : (w : ℕ) {pieces : List (List ℕ)} {bytes : List ℕ} → length pieces ≡ length s / 8 → pieces ≡ first_chunks 8 (length s / 8) s → k < length pieces → bytes ≡ get_or pieces k bytes → w ≡ from_le_bytes w64 bytes → w ≡ word_at s k
+  read_whole w {pieces} {bytes} few all inside e h =
+      let at : ℕ = 8 * k in
+      let here : bytes ≡ take 8 (drop at s) = e ∙ ap (λ (l : List (List ℕ)). get_or l k bytes) all ∙ piece_at (length s / 8) k s bytes (omega arith) in
+      let z : w ≡ from_le_bytes w64 (take 8 (drop at s)) = h ∙ ap (from_le_bytes w64) here in
+      let b0 = byte_in 0 at (omega arith) (omega arith) in
+      let b1 = byte_in 1 (at + 1) (omega arith) (omega arith) in
+      let b2 = byte_in 2 (at + 2) (omega arith) (omega arith) in
+      let b3 = byte_in 3 (at + 3) (omega arith) (omega arith) in
+      let b4 = byte_in 4 (at + 4) (omega arith) (omega arith) in
+      let b5 = byte_in 5 (at + 4 + 1) (omega arith) (omega arith) in
+      let b6 = byte_in 6 (at + 4 + 2) (omega arith) (omega arith) in
+      let b7 = byte_in 7 (at + 4 + 3) (omega arith) (omega arith) in
+      let whole = word_inside s k (omega arith) in
+      omega arith
 
   -- written over the part that has the word's bytes
   pub write_whole : (n w : ℕ) {bytes : List ℕ} → 8 * (k + 1) ≤ length s → n ≡ 8 → bytes ≡ to_le_bytes w64 w → put_mid (8 * k) n s bytes ≡ stored s k (w ∷ [])

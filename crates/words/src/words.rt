@@ -6,9 +6,9 @@ ghost use Rattle.words.specs.Words.{word_at, put, stored};
 pub fn word(s: &[u8], k: usize) -> u64
     ensures { result ≡ word_at s.now k }
 {
-    // From behind the last whole word on there are fewer than 8 bytes.
-    let at = 8 * k.min(s.len() / 8);
-    match s[at..].first_chunk::<8>() {
+    // So a word costs one test of its number and one load; a cut at the word's place would cost a second test.
+    let (words, _) = s.as_chunks::<8>();
+    match words.get(k) {
         Some(bytes) => u64::from_le_bytes(*bytes),
         None => 0,
     }

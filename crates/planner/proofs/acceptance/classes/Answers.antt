@@ -59,5 +59,6 @@ returns-in_err-sums c =
 pub fair_classes-requires : goal.fair_classes-requires
 fair_classes-requires c =
     let count = told c.args.t (search rules) c.if-not-contains.false in
-    let s = own c.args.gaps c.args.t (places c.args.t _ c.well_formed.1.0) count c.in_ok-sums.ensures in
-    record { summed = record { is_a = s.a ∙ figures A c.args.t; is_b_lem = s.b ∙ figures B c.args.t; small_a = s.small_a; small_b = s.small_b }; t_value = in_range c.args.gaps _ count (sym c.header_ok.ensures ∙ c.if-not-header_ok.false) refl s.passed }
+    let long = places c.args.t _ c.well_formed.1.0 in
+    let s = own c.args.gaps c.args.t long count c.in_ok-sums.ensures in
+    record { places = long; summed = record { is_a = s.a ∙ figures A c.args.t; is_b_lem = s.b ∙ figures B c.args.t; small_a = s.small_a; small_b = s.small_b }; t_value = in_range c.args.gaps _ count (sym c.header_ok.ensures ∙ c.if-not-header_ok.false) refl s.passed }

@@ -65,6 +65,7 @@ lane_b-requires c =
 pub timely_classes-requires : goal.timely_classes-requires
 timely_classes-requires c =
     let u = slope_limits _ (slopes _ c.requires.summed.is_a c.requires.summed.is_b_lem c.slopes_ok.ensures c.if-not-slopes_ok.false) in record {
+      places = c.requires.places;
       lanes = record {
         is_a = is_a _ c.requires.summed.is_a c.requires.summed.is_b_lem c.lane_a.ensures.value;
         is_b_lem = is_b_lem _ c.requires.summed.is_a c.requires.summed.is_b_lem c.lane_b.ensures.value;

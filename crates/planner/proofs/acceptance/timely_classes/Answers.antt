@@ -17,7 +17,7 @@ use Rattle.table.specs.Checks.{passing}
 use Rattle.table.specs.Ranges.{Every}
 use Rattle.figures.specs.declared.Lane.{Lane}
 use Rattle.figures.specs.Steps.{Ready}
-use Rattle.table.proofs.Laws.{places, rows_length, rows_are, passing_most}
+use Rattle.table.proofs.Laws.{rows_length, rows_are, passing_most}
 use Rattle.planner.specs.Sums.{sum_over}
 use Rattle.planner.specs.Bound.{most_in}
 use Rattle.planner.specs.Opening.{timely, room_ok}
@@ -74,12 +74,12 @@ shared_ref_as_front-judged c = few _ _ c.requires.passed
 pub judged-requires : goal.judged-requires
 judged-requires c =
     let h = few _ _ c.requires.passed in
-    record { few = simp length-take (omega arith); ready = all_ready_of c.args.t (places c.args.t _ c.well_formed.1.0) h c.requires.lanes }
+    record { few = simp length-take (omega arith); ready = all_ready_of c.args.t.now c.requires.places h c.requires.lanes }
 
 pub returns-in_err-found : goal.returns-in_err-found
 returns-in_err-found c =
-    let t = c.args.t in
-    let long = places t _ c.well_formed.1.0 in
+    let t = c.args.t.now in
+    let long = c.requires.places in
     let h = few _ _ c.requires.passed in
     let judged = c.in_err-found.ensures in
     let p = handed_on c.args.gaps (contents t) _ c.from_residual.result (Deadline _) c.from_residual.ensures.1 (judged.judgement_of.1 ∙ ap Deadline (found t long h c.requires.lanes)) (by_deadline _ _ c.requires.passed refl (late t long h c.requires.lanes judged.judgement_of.0)) (bounds t long h c.requires.lanes _ judged.bounds) in
@@ -87,8 +87,8 @@ returns-in_err-found c =
 
 pub returns-then-found : goal.returns-then-found
 returns-then-found c =
-    let t = c.args.t in
-    let long = places t _ c.well_formed.1.0 in
+    let t = c.args.t.now in
+    let long = c.requires.places in
     let h = few _ _ c.requires.passed in
     let judged = c.in_ok-found.ensures in
     let all = timely_all t long h c.requires.lanes judged.judgement_of.timely in
@@ -97,8 +97,8 @@ returns-then-found c =
 
 pub returns-then-found-2 : goal.returns-then-found-2
 returns-then-found-2 c =
-    let t = c.args.t in
-    let long = places t _ c.well_formed.1.0 in
+    let t = c.args.t.now in
+    let long = c.requires.places in
     let h = few _ _ c.requires.passed in
     let judged = c.in_ok-found.ensures in
     let all = timely_all t long h c.requires.lanes judged.judgement_of.timely in
@@ -108,8 +108,8 @@ returns-then-found-2 c =
 
 pub returns : goal.returns
 returns c =
-    let t = c.args.t in
-    let long = places t _ c.well_formed.1.0 in
+    let t = c.args.t.now in
+    let long = c.requires.places in
     let h = few _ _ c.requires.passed in
     let judged = c.in_ok-found.ensures in
     let all = timely_all t long h c.requires.lanes judged.judgement_of.timely in
