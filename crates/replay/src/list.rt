@@ -15,7 +15,7 @@ use codes::{code, of_unopened};
 use machine::Port;
 use record::check::is_sound;
 use turns::opened::open_file;
-use turns::turn::{carry, passed, turn};
+use turns::turn::make;
 
 // The call of number i, if it can be read.
 fn asked_at(calls: &[u8], i: usize) -> Option<Asked>
@@ -68,13 +68,8 @@ fn step(p: &mut Port, asked: Asked, out: &mut [u8])
     ensures answer { out.new ≡ fronted (answer_bytes (answer (view p.old) (call_of asked))) out.old }
     ensures port { view p.new ≡ after (view p.old) (call_of asked) }
 {
-    match turn(*p, is_sound(p), asked) {
-        Ok(j) => {
-            write_reply(out, Ok(passed(j)));
-            carry(p, j);
-        }
-        Err(d) => write_reply(out, Err(d)),
-    }
+    let whole = is_sound(p);
+    write_reply(out, make(p, whole, asked));
 }
 
 // All calls, one answer behind the other.

@@ -5,7 +5,6 @@ ghost use Rattle.words.specs.Words.{stored};
 ghost use Rattle.rowbytes.specs.Row.{pace_width, row_width, class_word, pace_words, row_words};
 
 use table::{Class, Pace, Row};
-use words::words::put_words;
 
 // A word that has room.
 pub fn put_word(out: &mut [u8], k: usize, w: u64)
@@ -13,6 +12,14 @@ pub fn put_word(out: &mut [u8], k: usize, w: u64)
     ensures { out.new ≡ stored out.old k (w ∷ []) }
 {
     words::words::put_word(out, k, w)
+}
+
+// Words that have room, one behind the other.
+fn put_words(out: &mut [u8], k: usize, words: &[u64])
+    requires { 8 * (k + length words.now) ≤ length out.old }
+    ensures { out.new ≡ stored out.old k words.now }
+{
+    words::words::put_words(out, k, words)
 }
 
 // Three words, one behind the other.

@@ -1,2 +1,3 @@
--- The port of a table file, and what a call comes to.
+-- The port of a table file, which calls are joins and leaves, and what a call comes to.
 pub mod Turns
+pub mod Steps

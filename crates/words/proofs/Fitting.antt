@@ -1,10 +1,10 @@
--- A word within the bytes, and one behind their end.
+-- A word, or words, within the bytes, and behind their end.
 use Prim.Native.Nat.{ℕ, ◌+◌, ◌*◌, ◌≤◌, ◌<◌}
 use mathlib.Core.List.{List, [], ◌∷◌}
 use mathlib.Core.Path.{◌≡◌, refl, ◌∙◌}
 use lib.ListN.{length}
 use borrow.Author.Tests.{le-leb, lt-leb}
-use Rattle.words.specs.Words.{half_at, word_at, stored, put}
+use Rattle.words.specs.Words.{half_at, word_at, stored, put, put_all}
 
 module _ (s : List ℕ) (k : ℕ) where
   pub none_there : length s < 8 * (k + 1) → 0 ≡ word_at s k
@@ -28,3 +28,17 @@ module _ (s : List ℕ) (k : ℕ) where
     pub no_room : length s < 8 * (k + 1) → s ≡ put s k w
     unfolding put
     no_room h = rw (lt-leb (8 * (k + 1)) (length s) h) refl
+
+  -- all words are stored, or none is
+  module _ (ws : List ℕ) where
+    pub all_fit : {t : List ℕ} → 8 * (k + length ws) ≤ length s → t ≡ put_all s k ws → t ≡ stored s k ws
+    unfolding put_all
+    all_fit h e = e ∙ rw (le-leb (8 * (k + length ws)) (length s) h) refl
+
+    pub fit_all : {t : List ℕ} → 8 * (k + length ws) ≤ length s → t ≡ stored s k ws → t ≡ put_all s k ws
+    unfolding put_all
+    fit_all h e = rw (le-leb (8 * (k + length ws)) (length s) h) e
+
+    pub none_fits : length s < 8 * (k + length ws) → s ≡ put_all s k ws
+    unfolding put_all
+    none_fits h = rw (lt-leb (8 * (k + length ws)) (length s) h) refl

@@ -49,3 +49,7 @@ gathered f size k (suc n) = f k ∷ gathered f size (k + size) n
 -- Bytes with one word put at its place: all its bytes, or none where the bytes end before its last one.
 unfoldable pub put : List ℕ → ℕ → ℕ → List ℕ
 put s k w = cond (leb (8 * (k + 1)) (length s)) (stored s k (w ∷ [])) s
+
+-- Bytes with words put one behind the other, from the word of number k on: all of them, or none where not all find room.
+unfoldable pub put_all : List ℕ → ℕ → List ℕ → List ℕ
+put_all s k ws = cond (leb (8 * (k + length ws)) (length s)) (stored s k ws) s

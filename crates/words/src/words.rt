@@ -1,6 +1,6 @@
 // Words of 64 bits in byte slices, little-endian.
-ghost use Rattle.std.specs.Prelude.{◌≡◌, ◌+◌, ◌*◌, ◌≤◌, length};
-ghost use Rattle.words.specs.Words.{word_at, put, stored};
+ghost use Rattle.std.specs.Prelude.{◌≡◌};
+ghost use Rattle.words.specs.Words.{word_at, put, put_all};
 
 // The word of number k, or 0 where the bytes end before its last one.
 pub fn word(s: &[u8], k: usize) -> u64
@@ -24,12 +24,14 @@ pub fn put_word(out: &mut [u8], k: usize, w: u64)
     }
 }
 
-// Words one behind the other, from that of number k on.
+// Words one behind the other, from that of number k on: all of them, or none where not all find room.
 pub fn put_words(out: &mut [u8], k: usize, words: &[u64])
-    requires { 8 * (k + length words.now) ≤ length out.old }
-    ensures { out.new ≡ stored out.old k words.now }
+    ensures { out.new ≡ put_all out.old k words.now }
 {
-    for (i, w) in words.iter().enumerate() {
-        put_word(out, k + i, *w);
+    let places = out.len() / 8;
+    if words.len() <= places && k <= places - words.len() {
+        for (i, w) in words.iter().enumerate() {
+            put_word(out, k + i, *w);
+        }
     }
 }
