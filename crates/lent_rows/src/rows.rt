@@ -53,6 +53,7 @@ fn read_upto(length: usize) -> usize
 }
 
 // The bounds of lent rows under a header. The values of each row are read at its place and handed on; 0 rows and more than 32 are refused.
+// (Row by row: with `copy_from_slice` the edits are refused for a form alone.)
 pub fn bounds(header: Header, rows: &[Row]) -> Result<[u64; ROWS], Refusal>
     ensures { Shown (record { header = header; rows = rows.now }) result }
 {

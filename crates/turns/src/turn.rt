@@ -94,7 +94,7 @@ pub fn carry(p: &mut Port, j: Judged)
     }
 }
 
-// A call made on a lent record, and its reply, told the same (told otherwise, both are free). An effect is carried out as it is: a `Judged` has room for a table, and by way of one a short advance takes up to half as long again.
+// A call made on a lent record, and its reply, told the same (told otherwise, both are free). An effect is carried out as it is: a `Judged` has room for a table, and by way of one a short advance takes a third longer.
 pub fn make(p: &mut Port, whole: bool, asked: Asked) -> Result<Option<Passed>, Denial>
     ensures { whole ≡ sound (view p.old) → Gives p.old (call_of asked) (reply_answer result) p.new }
 {
