@@ -15,21 +15,7 @@ module _ (s : List ℕ) (k : ℕ) where
   unfolding word_at
   word_inside h = rw (le-leb (8 * (k + 1)) (length s) h) refl
 
-  module _ (w : ℕ) where
-    -- a word that fits is stored
-    pub put_fits : {t : List ℕ} → 8 * (k + 1) ≤ length s → t ≡ put s k w → t ≡ stored s k (w ∷ [])
-    unfolding put
-    put_fits h e = e ∙ rw (le-leb (8 * (k + 1)) (length s) h) refl
-
-    pub fits_put : {t : List ℕ} → 8 * (k + 1) ≤ length s → t ≡ stored s k (w ∷ []) → t ≡ put s k w
-    unfolding put
-    fits_put h e = rw (le-leb (8 * (k + 1)) (length s) h) e
-
-    pub no_room : length s < 8 * (k + 1) → s ≡ put s k w
-    unfolding put
-    no_room h = rw (lt-leb (8 * (k + 1)) (length s) h) refl
-
-  -- all words are stored, or none is
+  -- words that all fit are stored, and else none is
   module _ (ws : List ℕ) where
     pub all_fit : {t : List ℕ} → 8 * (k + length ws) ≤ length s → t ≡ put_all s k ws → t ≡ stored s k ws
     unfolding put_all
@@ -42,3 +28,18 @@ module _ (s : List ℕ) (k : ℕ) where
     pub none_fits : length s < 8 * (k + length ws) → s ≡ put_all s k ws
     unfolding put_all
     none_fits h = rw (lt-leb (8 * (k + length ws)) (length s) h) refl
+
+  -- and so of one word
+  module _ (w : ℕ) where
+    one : put_all s k (w ∷ []) ≡ put s k w
+    unfolding put_all put
+    one = refl
+
+    pub put_fits : {t : List ℕ} → 8 * (k + 1) ≤ length s → t ≡ put s k w → t ≡ stored s k (w ∷ [])
+    put_fits h e = all_fit (w ∷ []) h (rw one e)
+
+    pub fits_put : {t : List ℕ} → 8 * (k + 1) ≤ length s → t ≡ stored s k (w ∷ []) → t ≡ put s k w
+    fits_put h e = rw (← one) (fit_all (w ∷ []) h e)
+
+    pub no_room : length s < 8 * (k + 1) → s ≡ put s k w
+    no_room h = rw (← one) (none_fits (w ∷ []) h)
